@@ -9,7 +9,7 @@ fn eq<T: Encoding>(path: &[u8], other: &[u8]) -> usize {
     usize::from(Path::<T>::new(path) == Path::<T>::new(other))
 }
 
-/// The order of two paths, as a number.
+/// Returns the order of two paths as a number: 0 for less, 1 for equal, 2 for greater.
 fn cmp<T: Encoding>(path: &[u8], other: &[u8]) -> usize {
     match Path::<T>::new(path).cmp(&Path::new(other)) {
         Ordering::Less => 0,
@@ -18,7 +18,7 @@ fn cmp<T: Encoding>(path: &[u8], other: &[u8]) -> usize {
     }
 }
 
-/// Whether a path has a hash, which every path has.
+/// Hashes a path, and returns whether the hash is not 0.
 fn hash<T: Encoding>(path: &[u8]) -> usize {
     let mut state = DefaultHasher::default();
     Path::<T>::new(path).hash(&mut state);
@@ -31,13 +31,13 @@ pub extern "C" fn bench_eq(path: &[u8], other: &[u8]) -> usize {
     eq::<UnixEncoding>(path, other)
 }
 
-/// The order of two Unix paths.
+/// Returns the order of two Unix paths.
 #[unsafe(no_mangle)]
 pub extern "C" fn bench_cmp(path: &[u8], other: &[u8]) -> usize {
     cmp::<UnixEncoding>(path, other)
 }
 
-/// The hash of a Unix path.
+/// Hashes a Unix path.
 #[unsafe(no_mangle)]
 pub extern "C" fn bench_hash(path: &[u8]) -> usize {
     hash::<UnixEncoding>(path)
@@ -49,13 +49,13 @@ pub extern "C" fn bench_windows_eq(path: &[u8], other: &[u8]) -> usize {
     eq::<WindowsEncoding>(path, other)
 }
 
-/// The order of two Windows paths.
+/// Returns the order of two Windows paths.
 #[unsafe(no_mangle)]
 pub extern "C" fn bench_windows_cmp(path: &[u8], other: &[u8]) -> usize {
     cmp::<WindowsEncoding>(path, other)
 }
 
-/// The hash of a Windows path.
+/// Hashes a Windows path.
 #[unsafe(no_mangle)]
 pub extern "C" fn bench_windows_hash(path: &[u8]) -> usize {
     hash::<WindowsEncoding>(path)
@@ -67,7 +67,7 @@ pub extern "C" fn bench_eq_ignore_case(path: &[u8], other: &[u8]) -> usize {
     usize::from(UnixPath::new(path).eq_ignore_ascii_case(UnixPath::new(other)))
 }
 
-/// The hash of a Unix path as a key.
+/// Hashes the key of a Unix path, and returns whether the hash is not 0.
 #[unsafe(no_mangle)]
 pub extern "C" fn bench_key_hash(path: &[u8]) -> usize {
     let mut state = DefaultHasher::default();
@@ -75,7 +75,7 @@ pub extern "C" fn bench_key_hash(path: &[u8]) -> usize {
     usize::from(state.finish() != 0)
 }
 
-/// How many bytes the key of a Unix path feeds, put into a buffer.
+/// Writes the key of a Unix path into a buffer, and returns how many bytes it has.
 #[unsafe(no_mangle)]
 pub extern "C" fn bench_put_key(path: &[u8]) -> usize {
     let mut room = [0u8; 512];

@@ -1,5 +1,5 @@
-//! Calls of `typed_path` for a program in another language, which times them: each answers a number
-//! that hangs on the whole of its work. Where memory is refused, the number is 0.
+//! Calls of `typed_path` for a program in another language, which times them. Each returns a number
+//! that depends on all of its work, or 0 if allocation fails.
 #![tactic(auto)]
 
 mod answers;

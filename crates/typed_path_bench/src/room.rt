@@ -1,12 +1,12 @@
-//! Changes of one owned path that has room: each of many paths in turn is laid into it, and then it
-//! is changed. The sum of the lengths.
+//! Changes of one owned path that has room: each of many paths is written into it, and then it is
+//! changed. Each call returns the sum of the lengths after the change.
 //!
-//! The paths are one text, and the places in it at which they end.
+//! The paths follow one another in `texts`, and `ends` has the index at which each ends.
 
 use std::alloc::{AllocError, Global};
 use typed_path::{UnixPath, UnixPathBuf};
 
-/// What is done to a path that was laid.
+/// What is done to a path that was written.
 #[derive(Clone, Copy)]
 enum Change {
     None,
@@ -17,7 +17,7 @@ enum Change {
     Clone,
 }
 
-/// Changes a path, and answers the length of what came out.
+/// Changes a path, and returns the length of the result.
 fn changed(path: &mut UnixPathBuf, change: Change, other: &[u8]) -> Result<usize, AllocError> {
     match change {
         Change::None => {}
@@ -34,7 +34,7 @@ fn changed(path: &mut UnixPathBuf, change: Change, other: &[u8]) -> Result<usize
     Ok(path.as_path().as_bytes().len())
 }
 
-/// Lays each path in turn into one that has room, and changes it there.
+/// Writes each path into one that has room, changes it there, and returns the sum of the lengths.
 fn sum(
     alloc: Global,
     texts: &[u8],
@@ -54,7 +54,7 @@ fn sum(
     Ok(sum)
 }
 
-/// Nothing more is done.
+/// Makes no change.
 #[unsafe(no_mangle)]
 pub extern "C" fn bench_room_lay(
     alloc: Global,
@@ -65,7 +65,7 @@ pub extern "C" fn bench_room_lay(
     sum(alloc, texts, ends, Change::None, other).unwrap_or(0)
 }
 
-/// A path is pushed.
+/// Pushes `other`.
 #[unsafe(no_mangle)]
 pub extern "C" fn bench_room_push(
     alloc: Global,
@@ -76,7 +76,7 @@ pub extern "C" fn bench_room_push(
     sum(alloc, texts, ends, Change::Push, other).unwrap_or(0)
 }
 
-/// The last component is cut off.
+/// Removes the last component.
 #[unsafe(no_mangle)]
 pub extern "C" fn bench_room_pop(
     alloc: Global,
@@ -87,7 +87,7 @@ pub extern "C" fn bench_room_pop(
     sum(alloc, texts, ends, Change::Pop, other).unwrap_or(0)
 }
 
-/// The file name is another.
+/// Sets the file name to `other`.
 #[unsafe(no_mangle)]
 pub extern "C" fn bench_room_file_name(
     alloc: Global,
@@ -98,7 +98,7 @@ pub extern "C" fn bench_room_file_name(
     sum(alloc, texts, ends, Change::FileName, other).unwrap_or(0)
 }
 
-/// The extension is another.
+/// Sets the extension to `other`.
 #[unsafe(no_mangle)]
 pub extern "C" fn bench_room_extension(
     alloc: Global,
@@ -109,7 +109,7 @@ pub extern "C" fn bench_room_extension(
     sum(alloc, texts, ends, Change::Extension, other).unwrap_or(0)
 }
 
-/// The path is cloned.
+/// Clones the path.
 #[unsafe(no_mangle)]
 pub extern "C" fn bench_room_clone(
     alloc: Global,

@@ -1,37 +1,38 @@
-//! Calls of paths of text, and the same calls of their bytes, over many paths in turn: the sum of what
-//! they answer.
+//! Calls of paths of text, and the same calls of their bytes, over many paths. Each returns the sum
+//! of what the calls return.
 //!
-//! The paths are one text, and the places in it at which they end. Both look once whether it is one.
+//! The paths follow one another in `texts`, and `ends` has the index at which each ends. Both check
+//! once that `texts` is UTF-8.
 
 use std::alloc::{AllocError, Global};
 use std::str;
 use typed_path::{Encoding, PathBuf, UnixPath, Utf8Encoding, Utf8PathBuf, Utf8UnixPath};
 
-/// The length of a path of text that was made.
+/// Returns the length of a path of text, or 0 for an error.
 fn text_len<T: Utf8Encoding, E: Drop>(made: Result<Utf8PathBuf<T>, E>) -> usize {
     made.map_or(0, |path| path.as_path().as_str().len())
 }
 
-/// The length of a path of bytes that was made.
+/// Returns the length of a path of bytes, or 0 for an error.
 fn bytes_len<T: Encoding, E: Drop>(made: Result<PathBuf<T>, E>) -> usize {
     made.map_or(0, |path| path.as_path().as_bytes().len())
 }
 
-/// A copy of a path of text, with another pushed onto it.
+/// Copies a path of text, pushes `other` onto it, and returns the length.
 fn text_pushed(alloc: Global, path: &str, other: &str) -> Result<usize, AllocError> {
     let mut made = Utf8UnixPath::new(path).to_path_buf(alloc)?;
     made.push(Utf8UnixPath::new(other))?;
     Ok(made.as_path().as_str().len())
 }
 
-/// The same of its bytes.
+/// Copies a path of bytes, pushes `other` onto it, and returns the length.
 fn bytes_pushed(alloc: Global, path: &[u8], other: &[u8]) -> Result<usize, AllocError> {
     let mut made = UnixPath::new(path).to_path_buf(alloc)?;
     made.push(UnixPath::new(other))?;
     Ok(made.as_path().as_bytes().len())
 }
 
-/// What one call of a path of text answers.
+/// Returns what the call of this number returns for a path of text.
 fn of_text(alloc: Global, call: usize, path: &str, other: &str) -> usize {
     let path = Utf8UnixPath::new(path);
     match call {
@@ -58,7 +59,7 @@ fn of_text(alloc: Global, call: usize, path: &str, other: &str) -> usize {
     }
 }
 
-/// What the same call of its bytes answers.
+/// Returns what the call of this number returns for a path of bytes.
 fn of_bytes(alloc: Global, call: usize, path: &[u8], other: &[u8]) -> usize {
     let path = UnixPath::new(path);
     match call {
@@ -85,7 +86,7 @@ fn of_bytes(alloc: Global, call: usize, path: &[u8], other: &[u8]) -> usize {
     }
 }
 
-/// A call of each path of text.
+/// Makes one call of each path as text.
 #[unsafe(no_mangle)]
 pub extern "C" fn bench_texts_of_text(
     alloc: Global,
@@ -107,7 +108,7 @@ pub extern "C" fn bench_texts_of_text(
     sum
 }
 
-/// The same call of the bytes of each.
+/// Makes one call of each path as bytes.
 #[unsafe(no_mangle)]
 pub extern "C" fn bench_texts_of_bytes(
     alloc: Global,

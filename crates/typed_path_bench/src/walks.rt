@@ -1,9 +1,9 @@
-//! Walks over the components of a path: the sum of the lengths of their texts.
+//! Walks over the components of a Unix path. Most return the sum of the lengths of the components.
 
 use std::alloc::Global;
 use typed_path::{Piece, TypedPath, UnixPath};
 
-/// A walk by `for`.
+/// Walks by `for`.
 #[unsafe(no_mangle)]
 pub extern "C" fn bench_walk(path: &[u8]) -> usize {
     let mut sum = 0usize;
@@ -13,7 +13,7 @@ pub extern "C" fn bench_walk(path: &[u8]) -> usize {
     sum
 }
 
-/// A walk by `for` from the last component to the first.
+/// Walks by `for` from the last component to the first.
 #[unsafe(no_mangle)]
 pub extern "C" fn bench_walk_back(path: &[u8]) -> usize {
     let mut sum = 0usize;
@@ -23,7 +23,7 @@ pub extern "C" fn bench_walk_back(path: &[u8]) -> usize {
     sum
 }
 
-/// A walk by `next`.
+/// Walks by `next`.
 #[unsafe(no_mangle)]
 pub extern "C" fn bench_next(path: &[u8]) -> usize {
     let mut sum = 0usize;
@@ -34,7 +34,7 @@ pub extern "C" fn bench_next(path: &[u8]) -> usize {
     sum
 }
 
-/// A walk by `next_back`.
+/// Walks by `next_back`.
 #[unsafe(no_mangle)]
 pub extern "C" fn bench_next_back(path: &[u8]) -> usize {
     let mut sum = 0usize;
@@ -45,7 +45,7 @@ pub extern "C" fn bench_next_back(path: &[u8]) -> usize {
     sum
 }
 
-/// A walk by steps of a reading that is three numbers, as many as there are bytes at most.
+/// Walks by steps of a reading that is three numbers. There are at most as many as bytes.
 #[unsafe(no_mangle)]
 pub extern "C" fn bench_steps(path: &[u8]) -> usize {
     let path = TypedPath::Unix(UnixPath::new(path));
@@ -60,7 +60,7 @@ pub extern "C" fn bench_steps(path: &[u8]) -> usize {
     sum
 }
 
-/// A walk over the texts alone.
+/// Walks over the texts of the components alone.
 #[unsafe(no_mangle)]
 pub extern "C" fn bench_texts(path: &[u8]) -> usize {
     let mut sum = 0usize;
@@ -70,7 +70,7 @@ pub extern "C" fn bench_texts(path: &[u8]) -> usize {
     sum
 }
 
-/// Two walks side by side.
+/// Makes two walks side by side, by `zip`.
 #[unsafe(no_mangle)]
 pub extern "C" fn bench_zip(path: &[u8]) -> usize {
     let mut sum = 0usize;
@@ -83,7 +83,7 @@ pub extern "C" fn bench_zip(path: &[u8]) -> usize {
     sum
 }
 
-/// A walk that looks at the next component before it takes it.
+/// Walks by `peekable`, which looks at the next component before it is taken.
 #[unsafe(no_mangle)]
 pub extern "C" fn bench_peekable(path: &[u8]) -> usize {
     let mut sum = 0usize;
@@ -95,7 +95,7 @@ pub extern "C" fn bench_peekable(path: &[u8]) -> usize {
     sum
 }
 
-/// The same by a copy of what is left.
+/// Walks with a look at the next component, by a copy of the iterator.
 #[unsafe(no_mangle)]
 pub extern "C" fn bench_ahead(path: &[u8]) -> usize {
     let mut sum = 0usize;
@@ -108,7 +108,7 @@ pub extern "C" fn bench_ahead(path: &[u8]) -> usize {
     sum
 }
 
-/// Two walks, one after the other.
+/// Makes two walks, one after the other, by `chain`.
 #[unsafe(no_mangle)]
 pub extern "C" fn bench_chain(path: &[u8]) -> usize {
     let mut sum = 0usize;
@@ -119,7 +119,7 @@ pub extern "C" fn bench_chain(path: &[u8]) -> usize {
     sum
 }
 
-/// The components in a vector: how many there are.
+/// Collects the components into a vector, and returns how many there are.
 #[unsafe(no_mangle)]
 pub extern "C" fn bench_collect(alloc: Global, path: &[u8]) -> usize {
     let pieces = UnixPath::new(path)
@@ -128,7 +128,7 @@ pub extern "C" fn bench_collect(alloc: Global, path: &[u8]) -> usize {
     pieces.map_or(0, |pieces| pieces.len())
 }
 
-/// A walk by `map` and `fold`.
+/// Walks by `map` and `fold`.
 #[unsafe(no_mangle)]
 pub extern "C" fn bench_map(path: &[u8]) -> usize {
     let lengths = UnixPath::new(path)
@@ -137,7 +137,7 @@ pub extern "C" fn bench_map(path: &[u8]) -> usize {
     lengths.fold(0, |sum: usize, len| sum.wrapping_add(len))
 }
 
-/// A walk by `for` over the names that `filter` lets through.
+/// Walks by `for` over the names, which `filter` selects.
 #[unsafe(no_mangle)]
 pub extern "C" fn bench_filter(path: &[u8]) -> usize {
     let mut sum = 0usize;
@@ -148,7 +148,8 @@ pub extern "C" fn bench_filter(path: &[u8]) -> usize {
     sum
 }
 
-/// The path, its parent, the parent of that, and so on: the sum of their lengths.
+/// Walks over the path, its parent, the parent of that, and so on, and returns the sum of their
+/// lengths.
 #[unsafe(no_mangle)]
 pub extern "C" fn bench_ancestors(path: &[u8]) -> usize {
     let mut sum = 0usize;

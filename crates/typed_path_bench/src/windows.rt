@@ -1,10 +1,11 @@
-//! Calls on Windows paths: walks, which answer the sum of the lengths of the texts; single steps and
-//! questions; and owned paths, which answer their length. Where memory is refused, the number is 0.
+//! Calls on Windows paths. Walks return the sum of the lengths of the components; single steps and
+//! parts their length, or 1 if there is none; questions 1 for yes and 0 for no; and calls that make
+//! a path its length, or 0 if it is refused or allocation fails.
 
 use std::alloc::{AllocError, Global};
 use typed_path::{TypedPath, WindowsPath, WindowsPathBuf};
 
-/// A walk by `for`.
+/// Walks by `for`.
 #[unsafe(no_mangle)]
 pub extern "C" fn bench_windows_walk(path: &[u8]) -> usize {
     let mut sum = 0usize;
@@ -14,7 +15,7 @@ pub extern "C" fn bench_windows_walk(path: &[u8]) -> usize {
     sum
 }
 
-/// A walk by `for` from the last component to the first.
+/// Walks by `for` from the last component to the first.
 #[unsafe(no_mangle)]
 pub extern "C" fn bench_windows_walk_back(path: &[u8]) -> usize {
     let mut sum = 0usize;
@@ -24,42 +25,43 @@ pub extern "C" fn bench_windows_walk_back(path: &[u8]) -> usize {
     sum
 }
 
-/// The first component.
+/// Returns the length of the first component.
 #[unsafe(no_mangle)]
 pub extern "C" fn bench_windows_first(path: &[u8]) -> usize {
     let first = WindowsPath::new(path).components().next();
     first.map_or(1, |piece| piece.text.len())
 }
 
-/// The last component.
+/// Returns the length of the last component.
 #[unsafe(no_mangle)]
 pub extern "C" fn bench_windows_last(path: &[u8]) -> usize {
     let last = WindowsPath::new(path).components().next_back();
     last.map_or(1, |piece| piece.text.len())
 }
 
-/// The parent.
+/// Returns the length of the parent.
 #[unsafe(no_mangle)]
 pub extern "C" fn bench_windows_parent(path: &[u8]) -> usize {
     let parent = WindowsPath::new(path).parent();
     parent.map_or(1, |parent| parent.as_bytes().len())
 }
 
-/// The file name.
+/// Returns the length of the file name.
 #[unsafe(no_mangle)]
 pub extern "C" fn bench_windows_file_name(path: &[u8]) -> usize {
     let name = WindowsPath::new(path).file_name();
     name.map_or(1, |name| name.len())
 }
 
-/// The extension of the file name.
+/// Returns the length of the file name's extension.
 #[unsafe(no_mangle)]
 pub extern "C" fn bench_windows_extension(path: &[u8]) -> usize {
     let extension = WindowsPath::new(path).extension();
     extension.map_or(1, |extension| extension.len())
 }
 
-/// The path, its parent, the parent of that, and so on: the sum of their lengths.
+/// Walks over the path, its parent, the parent of that, and so on, and returns the sum of their
+/// lengths.
 #[unsafe(no_mangle)]
 pub extern "C" fn bench_windows_ancestors(path: &[u8]) -> usize {
     let mut sum = 0usize;
@@ -69,31 +71,32 @@ pub extern "C" fn bench_windows_ancestors(path: &[u8]) -> usize {
     sum
 }
 
-/// Whether the path begins with a base.
+/// Whether the path begins with `base`.
 #[unsafe(no_mangle)]
 pub extern "C" fn bench_windows_starts_with(path: &[u8], base: &[u8]) -> usize {
     usize::from(WindowsPath::new(path).starts_with(WindowsPath::new(base)))
 }
 
-/// Whether the path lies at a base or below it.
+/// Whether the path lies at `base` or below it.
 #[unsafe(no_mangle)]
 pub extern "C" fn bench_windows_is_within(path: &[u8], base: &[u8]) -> usize {
     usize::from(WindowsPath::new(path).is_within(WindowsPath::new(base)))
 }
 
-/// Whether the path keeps its prefix as a base.
+/// Whether the path is known to keep its prefix as a base.
 #[unsafe(no_mangle)]
 pub extern "C" fn bench_windows_keeps_prefix(path: &[u8]) -> usize {
     usize::from(WindowsPath::new(path).keeps_prefix())
 }
 
-/// The path without its verbatim mark.
+/// Returns the length of the path without its `\\?\`, if that means the same; else of the path
+/// itself.
 #[unsafe(no_mangle)]
 pub extern "C" fn bench_windows_simplified(path: &[u8]) -> usize {
     WindowsPath::new(path).simplified().as_bytes().len()
 }
 
-/// What is left of the path behind a base.
+/// Returns the length of what is left of the path after `base`.
 #[unsafe(no_mangle)]
 pub extern "C" fn bench_windows_strip_prefix(path: &[u8], base: &[u8]) -> usize {
     let rest = WindowsPath::new(path).strip_prefix(WindowsPath::new(base));
@@ -112,13 +115,13 @@ pub extern "C" fn bench_windows_is_portable(path: &[u8]) -> usize {
     usize::from(WindowsPath::new(path).is_portable())
 }
 
-/// Whether some name of the path may be taken for a device.
+/// Whether some version of Windows may take a name of the path for a device.
 #[unsafe(no_mangle)]
 pub extern "C" fn bench_windows_may_be_device(path: &[u8]) -> usize {
     usize::from(WindowsPath::new(path).may_be_device())
 }
 
-/// The last component, by a step of a reading that is three numbers.
+/// Returns the length of the last component, by a step of a reading that is three numbers.
 #[unsafe(no_mangle)]
 pub extern "C" fn bench_windows_step_back(path: &[u8]) -> usize {
     let path = TypedPath::Windows(WindowsPath::new(path));
@@ -128,45 +131,45 @@ pub extern "C" fn bench_windows_step_back(path: &[u8]) -> usize {
     }
 }
 
-/// Where the names of the prefix end.
+/// Returns the sum of the indices at which the names of the prefix end, or 1 without a prefix.
 #[unsafe(no_mangle)]
 pub extern "C" fn bench_windows_prefix_names(path: &[u8]) -> usize {
     let names = TypedPath::Windows(WindowsPath::new(path)).prefix_names();
     names.map_or(1, |names| names.first_end.wrapping_add(names.second_end))
 }
 
-/// The length of a path that was made.
+/// Returns the length of a path, or 0 for an error.
 fn length_of(made: Result<WindowsPathBuf, AllocError>) -> usize {
     made.map_or(0, |path| path.as_path().as_bytes().len())
 }
 
-/// The path with another pushed onto it.
+/// Joins `other` to the path.
 #[unsafe(no_mangle)]
 pub extern "C" fn bench_windows_join(alloc: Global, path: &[u8], other: &[u8]) -> usize {
     length_of(WindowsPath::new(path).join(alloc, WindowsPath::new(other)))
 }
 
-/// The same, unless the other offends.
+/// Joins `other` to the path, unless a component of `other` offends.
 #[unsafe(no_mangle)]
 pub extern "C" fn bench_windows_join_checked(alloc: Global, path: &[u8], other: &[u8]) -> usize {
     let joined = WindowsPath::new(path).join_checked(alloc, WindowsPath::new(other));
     joined.map_or(0, |path| path.as_path().as_bytes().len())
 }
 
-/// A copy of the path with each name of another pushed onto it.
+/// Returns a copy of the path with each component of `other` pushed onto it.
 fn extended(alloc: Global, path: &[u8], other: &[u8]) -> Result<WindowsPathBuf, AllocError> {
     let mut extended = WindowsPathBuf::from_bytes(alloc, path)?;
     extended.extend(WindowsPath::new(other).iter().map(WindowsPath::new))?;
     Ok(extended)
 }
 
-/// The path extended by each name of another.
+/// Copies the path and pushes each component of `other` onto it.
 #[unsafe(no_mangle)]
 pub extern "C" fn bench_windows_extend(alloc: Global, path: &[u8], other: &[u8]) -> usize {
     length_of(extended(alloc, path, other))
 }
 
-/// A copy with another extension.
+/// Copies the path with another extension.
 #[unsafe(no_mangle)]
 pub extern "C" fn bench_windows_with_extension(
     alloc: Global,
@@ -176,19 +179,19 @@ pub extern "C" fn bench_windows_with_extension(
     length_of(WindowsPath::new(path).with_extension(alloc, extension))
 }
 
-/// The normal text.
+/// Makes the normal path.
 #[unsafe(no_mangle)]
 pub extern "C" fn bench_windows_normalize(alloc: Global, path: &[u8]) -> usize {
     length_of(WindowsPath::new(path).normalize(alloc))
 }
 
-/// The clean text.
+/// Makes the clean path.
 #[unsafe(no_mangle)]
 pub extern "C" fn bench_windows_clean(alloc: Global, path: &[u8]) -> usize {
     length_of(WindowsPath::new(path).clean(alloc))
 }
 
-/// The path that leads from a base to the path.
+/// Makes the path that leads from `base` to the path.
 #[unsafe(no_mangle)]
 pub extern "C" fn bench_windows_relative_to(alloc: Global, path: &[u8], base: &[u8]) -> usize {
     let found = WindowsPath::new(path).relative_to(alloc, WindowsPath::new(base));

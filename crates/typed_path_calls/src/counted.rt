@@ -1,7 +1,8 @@
-//! The calls that are counted: each answers a number that hangs on the whole of its work. Where memory is refused, the
-//! number is 0.
+//! The calls that are counted. Each returns a number that depends on all of its work: what its
+//! comment says, 0 if a path is refused or allocation fails, and 1 if there is no such part; for a
+//! question 1 for yes and 0 for no.
 //!
-//! None is built into its caller, and each is told of by its own name there, so that what it takes is counted alone.
+//! None is inlined, so that each has a symbol of its own in the program and is counted alone.
 
 use std::alloc::Global;
 use std::cmp::Ordering;
@@ -10,7 +11,7 @@ use typed_path::{
     Encoding, Key, Path, PathBuf, Piece, PlacedPiece, PlatformPath, TypedPath, WindowsPath,
 };
 
-/// The length of a path that was made.
+/// Returns the length of a path, or 0 for an error.
 #[inline(always)]
 fn length_of<T: Encoding, E: Drop>(made: Result<PathBuf<T>, E>) -> usize {
     match made {
@@ -19,7 +20,7 @@ fn length_of<T: Encoding, E: Drop>(made: Result<PathBuf<T>, E>) -> usize {
     }
 }
 
-/// The length of a part of a path, or 1 where there is none.
+/// Returns the length of a part of a path, or 1 if there is none.
 #[inline(always)]
 fn length_or_one(part: Option<&[u8]>) -> usize {
     match part {
@@ -28,7 +29,7 @@ fn length_or_one(part: Option<&[u8]>) -> usize {
     }
 }
 
-/// The sum of the lengths of the components, from the first to the last.
+/// Returns the sum of the lengths of the components, walked from the first to the last.
 #[inline(never)]
 pub fn walk<T: Encoding>(path: &[u8]) -> usize {
     let mut sum = 0usize;
@@ -38,7 +39,7 @@ pub fn walk<T: Encoding>(path: &[u8]) -> usize {
     sum
 }
 
-/// The same from the last to the first.
+/// Returns the sum of the lengths of the components, walked from the last to the first.
 #[inline(never)]
 pub fn walk_back<T: Encoding>(path: &[u8]) -> usize {
     let mut sum = 0usize;
@@ -48,7 +49,8 @@ pub fn walk_back<T: Encoding>(path: &[u8]) -> usize {
     sum
 }
 
-/// The same where the next component is looked at before it is taken.
+/// Returns the sum of the lengths of all components and of those after the first, walked with a
+/// look at the next one before it is taken.
 #[inline(never)]
 pub fn peekable<T: Encoding>(path: &[u8]) -> usize {
     let mut sum = 0usize;
@@ -60,7 +62,7 @@ pub fn peekable<T: Encoding>(path: &[u8]) -> usize {
     sum
 }
 
-/// The length of a component that was taken, or 1 where there was none.
+/// Returns the length of a component, or 1 if there is none.
 #[inline(always)]
 fn length_of_piece(taken: Option<Piece<'_>>) -> usize {
     match taken {
@@ -69,19 +71,19 @@ fn length_of_piece(taken: Option<Piece<'_>>) -> usize {
     }
 }
 
-/// The first component.
+/// Returns the length of the first component.
 #[inline(never)]
 pub fn first<T: Encoding>(path: &[u8]) -> usize {
     length_of_piece(Path::<T>::new(path).components().next())
 }
 
-/// The last component.
+/// Returns the length of the last component.
 #[inline(never)]
 pub fn last<T: Encoding>(path: &[u8]) -> usize {
     length_of_piece(Path::<T>::new(path).components().next_back())
 }
 
-/// Where a component that was taken by a step begins, and its length.
+/// Returns the index of a component that a step took, plus its length; 1 if there is none.
 #[inline(always)]
 fn place_of<E: Drop>(step: Result<Option<PlacedPiece<'_>>, E>) -> usize {
     match step {
@@ -90,19 +92,22 @@ fn place_of<E: Drop>(step: Result<Option<PlacedPiece<'_>>, E>) -> usize {
     }
 }
 
-/// The first component, by a step of a reading that is three numbers.
+/// Takes the first component by a step of a reading that is three numbers, and returns its index
+/// plus its length.
 #[inline(never)]
 pub fn step_front(path: TypedPath<'_>) -> usize {
     place_of(path.step_front(&mut path.unread()))
 }
 
-/// The last one, in the same way.
+/// Takes the last component by a step of a reading that is three numbers, and returns its index
+/// plus its length.
 #[inline(never)]
 pub fn step_back(path: TypedPath<'_>) -> usize {
     place_of(path.step_back(&mut path.unread()))
 }
 
-/// The sum of the lengths of the components, by such steps from the first to the last.
+/// Returns the sum of the lengths of the components, walked by steps of a reading that is three
+/// numbers.
 #[inline(never)]
 pub fn steps(path: TypedPath<'_>) -> usize {
     let mut unread = path.unread();
@@ -116,7 +121,7 @@ pub fn steps(path: TypedPath<'_>) -> usize {
     sum
 }
 
-/// How many components there are, by a vector of them.
+/// Collects the components into a vector, and returns how many there are.
 #[inline(never)]
 pub fn collect<T: Encoding>(alloc: Global, path: &[u8]) -> usize {
     let components = Path::<T>::new(path).components();
@@ -126,7 +131,7 @@ pub fn collect<T: Encoding>(alloc: Global, path: &[u8]) -> usize {
     }
 }
 
-/// The sum of the lengths of the path and those above it.
+/// Returns the sum of the lengths of the path and those above it.
 #[inline(never)]
 pub fn ancestors<T: Encoding>(path: &[u8]) -> usize {
     let mut sum = 0usize;
@@ -136,7 +141,7 @@ pub fn ancestors<T: Encoding>(path: &[u8]) -> usize {
     sum
 }
 
-/// Whether the path has a hash, which every path has.
+/// Hashes the path, and returns whether the hash is not 0.
 #[inline(never)]
 pub fn hash<T: Encoding, H: Hasher + Default + Drop>(path: &[u8]) -> usize {
     let mut state = H::default();
@@ -144,7 +149,7 @@ pub fn hash<T: Encoding, H: Hasher + Default + Drop>(path: &[u8]) -> usize {
     usize::from(state.finish() != 0)
 }
 
-/// The same of the key of the path.
+/// Hashes the key of the path, and returns whether the hash is not 0.
 #[inline(never)]
 pub fn key_hash<T: Encoding, H: Hasher + Default + Drop>(path: &[u8]) -> usize {
     let mut state = H::default();
@@ -152,14 +157,15 @@ pub fn key_hash<T: Encoding, H: Hasher + Default + Drop>(path: &[u8]) -> usize {
     usize::from(state.finish() != 0)
 }
 
-/// How many bytes the key of the path feeds, put into a buffer.
+/// Writes the key of the path into a buffer, and returns how many bytes it has.
 #[inline(never)]
 pub fn put_key<T: Encoding>(path: &[u8]) -> usize {
     let mut room = [0u8; 256];
     Path::<T>::new(path).put_key(&mut room)
 }
 
-/// How many bytes of the path are kept as another is pushed onto it, and how many stand between.
+/// Returns how many bytes of the path are kept if `other` is pushed onto it, plus how many are put
+/// between.
 #[inline(never)]
 pub fn push_place(path: TypedPath<'_>, other: &[u8]) -> usize {
     match path.push_place(other) {
@@ -168,7 +174,7 @@ pub fn push_place(path: TypedPath<'_>, other: &[u8]) -> usize {
     }
 }
 
-/// Where the names of the prefix end.
+/// Returns the sum of the indices at which the names of the prefix end.
 #[inline(never)]
 pub fn prefix_names(path: TypedPath<'_>) -> usize {
     match path.prefix_names() {
@@ -177,7 +183,7 @@ pub fn prefix_names(path: TypedPath<'_>) -> usize {
     }
 }
 
-/// The parent.
+/// Returns the length of the parent.
 #[inline(never)]
 pub fn parent<T: Encoding>(path: &[u8]) -> usize {
     match Path::<T>::new(path).parent() {
@@ -186,19 +192,19 @@ pub fn parent<T: Encoding>(path: &[u8]) -> usize {
     }
 }
 
-/// The file name.
+/// Returns the length of the file name.
 #[inline(never)]
 pub fn file_name<T: Encoding>(path: &[u8]) -> usize {
     length_or_one(Path::<T>::new(path).file_name())
 }
 
-/// The stem of the file name.
+/// Returns the length of the file name's stem.
 #[inline(never)]
 pub fn file_stem<T: Encoding>(path: &[u8]) -> usize {
     length_or_one(Path::<T>::new(path).file_stem())
 }
 
-/// The extension of the file name.
+/// Returns the length of the file name's extension.
 #[inline(never)]
 pub fn extension<T: Encoding>(path: &[u8]) -> usize {
     length_or_one(Path::<T>::new(path).extension())
@@ -216,85 +222,88 @@ pub fn is_portable<T: Encoding>(path: &[u8]) -> usize {
     usize::from(Path::<T>::new(path).is_portable())
 }
 
-/// The same, by the refusal.
+/// Whether every system takes the path as it is written, by the check that says why not.
 #[inline(never)]
 pub fn check_portable<T: Encoding>(path: &[u8]) -> usize {
     usize::from(Path::<T>::new(path).check_portable().is_ok())
 }
 
-/// Whether some name of the path may be taken for a device.
+/// Whether some version of Windows may take a name of the path for a device.
 #[inline(never)]
 pub fn may_be_device<T: Encoding>(path: &[u8]) -> usize {
     usize::from(Path::<T>::new(path).may_be_device())
 }
 
-/// Whether the path keeps its prefix as a base.
+/// Whether the path is known to keep its prefix as a base.
 #[inline(never)]
 pub fn keeps_prefix<T: Encoding>(path: &[u8]) -> usize {
     usize::from(Path::<T>::new(path).keeps_prefix())
 }
 
-/// A path of Windows without its verbatim mark.
+/// Returns the length of a Windows path without its `\\?\`, if that means the same; else of the
+/// path itself.
 #[inline(never)]
 pub fn simplified(path: &[u8]) -> usize {
     WindowsPath::new(path).simplified().as_bytes().len()
 }
 
-/// The normal path.
+/// Returns the length of the normal path.
 #[inline(never)]
 pub fn normalize<T: Encoding>(alloc: Global, path: &[u8]) -> usize {
     length_of(Path::<T>::new(path).normalize(alloc))
 }
 
-/// The clean path.
+/// Returns the length of the clean path.
 #[inline(never)]
 pub fn clean<T: Encoding>(alloc: Global, path: &[u8]) -> usize {
     length_of(Path::<T>::new(path).clean(alloc))
 }
 
-/// The path in another encoding.
+/// Returns the length of the path in the encoding `U`.
 #[inline(never)]
 pub fn convert<T: Encoding, U: Encoding>(alloc: Global, path: &[u8]) -> usize {
     length_of(Path::<T>::new(path).with_encoding::<U>(alloc))
 }
 
-/// The same by checked pushes.
+/// Returns the length of the path in the encoding `U`, by checked pushes.
 #[inline(never)]
 pub fn convert_checked<T: Encoding, U: Encoding>(alloc: Global, path: &[u8]) -> usize {
     length_of(Path::<T>::new(path).with_encoding_checked::<U>(alloc))
 }
 
-/// The path made absolute from a directory of the machine.
+/// Returns the length of the path made absolute from a directory of the machine.
 #[inline(never)]
 pub fn absolutize<T: Encoding>(alloc: Global, path: &[u8], directory: &[u8]) -> usize {
     length_of(Path::<T>::new(path).absolutize(alloc, PlatformPath::new(directory)))
 }
 
-/// The path made absolute from a directory of its own dialect.
+/// Returns the length of the path made absolute from a directory of its own dialect.
 #[inline(never)]
 pub fn absolutize_from<T: Encoding>(alloc: Global, path: &[u8], directory: &[u8]) -> usize {
     length_of(Path::<T>::new(path).absolutize_from(alloc, Path::<T>::new(directory)))
 }
 
-/// The path with another pushed onto it.
+/// Returns the length of the path with `other` pushed onto it.
 #[inline(never)]
 pub fn join<T: Encoding>(alloc: Global, path: &[u8], other: &[u8]) -> usize {
     length_of(Path::<T>::new(path).join(alloc, Path::new(other)))
 }
 
-/// The same, unless the other offends.
+/// Returns the length of the path with `other` pushed onto it, unless a component of `other`
+/// offends.
 #[inline(never)]
 pub fn join_checked<T: Encoding>(alloc: Global, path: &[u8], other: &[u8]) -> usize {
     length_of(Path::<T>::new(path).join_checked(alloc, Path::new(other)))
 }
 
-/// The same, unless the other is not portable.
+/// Returns the length of the path with `other` pushed onto it, unless `other` is not portable or a
+/// component of it offends.
 #[inline(never)]
 pub fn join_portable<T: Encoding>(alloc: Global, path: &[u8], other: &[u8]) -> usize {
     length_of(Path::<T>::new(path).join_portable(alloc, Path::new(other)))
 }
 
-/// The path that leads from a base to the path.
+/// Returns the length of the path that leads from `base` to the path, or 0 if there is none.
 #[inline(never)]
 pub fn relative_to<T: Encoding>(alloc: Global, path: &[u8], base: &[u8]) -> usize {
     match Path::<T>::new(path).relative_to(alloc, Path::new(base)) {
@@ -303,13 +312,13 @@ pub fn relative_to<T: Encoding>(alloc: Global, path: &[u8], base: &[u8]) -> usiz
     }
 }
 
-/// Whether the path lies at a base or below it.
+/// Whether the path lies at `base` or below it.
 #[inline(never)]
 pub fn is_within<T: Encoding>(path: &[u8], base: &[u8]) -> usize {
     usize::from(Path::<T>::new(path).is_within(Path::new(base)))
 }
 
-/// What the path and another begin with.
+/// Returns the length of what both paths begin with.
 #[inline(never)]
 pub fn common_ancestor<T: Encoding>(path: &[u8], other: &[u8]) -> usize {
     match Path::<T>::new(path).common_ancestor(Path::new(other)) {
@@ -318,13 +327,13 @@ pub fn common_ancestor<T: Encoding>(path: &[u8], other: &[u8]) -> usize {
     }
 }
 
-/// Whether the path begins with a base.
+/// Whether the path begins with `base`.
 #[inline(never)]
 pub fn starts_with<T: Encoding>(path: &[u8], base: &[u8]) -> usize {
     usize::from(Path::<T>::new(path).starts_with(Path::new(base)))
 }
 
-/// What is left of the path behind a base.
+/// Returns the length of what is left of the path after `base`.
 #[inline(never)]
 pub fn strip_prefix<T: Encoding>(path: &[u8], base: &[u8]) -> usize {
     match Path::<T>::new(path).strip_prefix(Path::new(base)) {
@@ -333,7 +342,7 @@ pub fn strip_prefix<T: Encoding>(path: &[u8], base: &[u8]) -> usize {
     }
 }
 
-/// Whether the path ends with another.
+/// Whether the path ends with `end`.
 #[inline(never)]
 pub fn ends_with<T: Encoding>(path: &[u8], end: &[u8]) -> usize {
     usize::from(Path::<T>::new(path).ends_with(Path::new(end)))
@@ -351,19 +360,19 @@ pub fn eq_ignore_ascii_case<T: Encoding>(path: &[u8], other: &[u8]) -> usize {
     usize::from(Path::<T>::new(path).eq_ignore_ascii_case(Path::new(other)))
 }
 
-/// Whether the path begins with a base in lower case.
+/// Whether the path begins with `base` in lower case.
 #[inline(never)]
 pub fn starts_with_ignore_ascii_case<T: Encoding>(path: &[u8], base: &[u8]) -> usize {
     usize::from(Path::<T>::new(path).starts_with_ignore_ascii_case(Path::new(base)))
 }
 
-/// The path in lower case.
+/// Returns the length of the path in lower case.
 #[inline(never)]
 pub fn to_ascii_lowercase<T: Encoding>(alloc: Global, path: &[u8]) -> usize {
     length_of(Path::<T>::new(path).to_ascii_lowercase(alloc))
 }
 
-/// The order of two paths.
+/// Returns the order of two paths as a number: 0 for less, 1 for equal, 2 for greater.
 #[inline(never)]
 pub fn cmp<T: Encoding>(path: &[u8], other: &[u8]) -> usize {
     match Path::<T>::new(path).cmp(&Path::new(other)) {

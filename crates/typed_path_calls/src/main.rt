@@ -1,5 +1,6 @@
-//! Single calls, which `bench/calls` counts. Each line of standard input names a dialect and a call, and has one path or
-//! two, with tabs between them. The call is made twice, and what it answers is printed as a number each time.
+//! A program of single calls, which `bench/calls` counts. Each line of standard input names a
+//! dialect and a call, and has one path or two, with a tab between two fields. The call is made
+//! twice, and each time the number that it returns is printed.
 #![tactic(auto)]
 
 mod counted;
@@ -10,7 +11,8 @@ use std::hash::{DefaultHasher, FoldHasher};
 use std::io::Read;
 use typed_path::{Encoding, TypedPath, UnixEncoding, UnixPath, WindowsEncoding, WindowsPath};
 
-/// What the call of a name answers on paths of one encoding, which cross to another. None where no call has the name.
+/// Returns what the call `name` returns for a path of the encoding `T`, which is converted to `U`.
+/// `None` if no call has that name.
 fn answer<T: Encoding, U: Encoding>(
     alloc: Global,
     name: &[u8],
@@ -55,7 +57,8 @@ fn answer<T: Encoding, U: Encoding>(
     })
 }
 
-/// The same of the calls that look at two paths.
+/// Returns what the call `name` returns for two paths that it looks at. `None` if no call has that
+/// name.
 fn answer_beside<T: Encoding>(name: &[u8], path: &[u8], other: &[u8]) -> Option<usize> {
     Some(match name {
         b"is_within" => counted::is_within::<T>(path, other),
@@ -71,7 +74,7 @@ fn answer_beside<T: Encoding>(name: &[u8], path: &[u8], other: &[u8]) -> Option<
     })
 }
 
-/// The same of the calls of a path of either dialect.
+/// Returns what the call `name` returns for a path in its dialect. `None` if no call has that name.
 fn answer_typed(name: &[u8], path: TypedPath<'_>, other: &[u8]) -> Option<usize> {
     Some(match name {
         b"step_front" => counted::step_front(path),
@@ -83,7 +86,7 @@ fn answer_typed(name: &[u8], path: TypedPath<'_>, other: &[u8]) -> Option<usize>
     })
 }
 
-/// What the call of a line answers.
+/// Makes the call of a line, and returns its number.
 fn answer_line(alloc: Global, line: &[u8]) -> Result<usize> {
     let mut fields = line.split(|byte| *byte == b'\t');
     let dialect = fields.next().context("no dialect")?;

@@ -1,5 +1,5 @@
-//! Paths that are seldom met: very deep ones, very long ones, runs of separators, chains of pushes and
-//! pops, bytes that are no text, and texts that are not ASCII.
+//! Paths that are seldom met: very deep ones, very long ones, runs of separators, chains of pushes
+//! and pops, bytes that are not UTF-8, and text that is not ASCII.
 
 use crate::digest::Digest;
 use crate::random::Random;
@@ -30,7 +30,7 @@ const USUAL: &[&[u8]] = &[
     b"__init__.py/",
 ];
 
-/// Names with what counts for nothing, or takes away.
+/// Names with separators and `.` that count for nothing, or with `..` that cancels.
 const RUNS: &[&[u8]] = &[
     b"////////",
     b"/././././",
@@ -43,7 +43,7 @@ const RUNS: &[&[u8]] = &[
     b"..//",
 ];
 
-/// Names that are texts, not all of ASCII.
+/// Names that are text, not all of ASCII.
 const TEXTS: &[&[u8]] = &[
     b"\xC3\xA9t\xC3\xA9/",
     b"\xE6\x97\xA5\xE6\x9C\xAC\xE8\xAA\x9E/",
@@ -53,7 +53,7 @@ const TEXTS: &[&[u8]] = &[
     b"src/",
 ];
 
-/// Names that are no texts, some of them.
+/// Names of which some are not UTF-8.
 const BYTES: &[&[u8]] = &[
     b"caf\xE9/",
     b"\xFF\xFE/",
@@ -72,7 +72,7 @@ const WINDOWS: &[&[u8]] = &[
     br"Program Files\",
 ];
 
-/// A path of so many names, which are drawn, with letters before the last that no other path has.
+/// Returns a path of `count` drawn names, with letters before the last that no other path has.
 fn path_of(
     alloc: Global,
     random: &mut Random,
@@ -89,7 +89,7 @@ fn path_of(
     Ok(texts)
 }
 
-/// Does with a path, however long it is, what is done with most.
+/// Makes the calls with a path that are made with most, however long it is.
 fn handle<T: Encoding, U: Encoding>(
     alloc: Global,
     bytes: &[u8],
@@ -138,7 +138,7 @@ fn push_and_pop(alloc: Global, random: &mut Random, digest: &mut Digest) -> Resu
     Ok(())
 }
 
-/// Handles a text that is not ASCII.
+/// Makes calls with a path of text that is not ASCII.
 fn handle_text(alloc: Global, bytes: &[u8], digest: &mut Digest) -> Result<(), AllocError> {
     let Ok(path) = Utf8UnixPath::from_bytes_path(UnixPath::new(bytes)) else {
         return Ok(());
@@ -161,7 +161,7 @@ fn handle_text(alloc: Global, bytes: &[u8], digest: &mut Digest) -> Result<(), A
     Ok(())
 }
 
-/// Handles bytes that are no text.
+/// Makes calls with a path of bytes that are not UTF-8.
 fn handle_bytes(alloc: Global, bytes: &[u8], digest: &mut Digest) -> Result<(), AllocError> {
     let path = UnixPath::new(bytes);
     digest.some(path.to_str().map(|text| text.as_bytes()));
@@ -172,7 +172,8 @@ fn handle_bytes(alloc: Global, bytes: &[u8], digest: &mut Digest) -> Result<(), 
     Ok(())
 }
 
-/// Handles paths of each kind, so many times; one in 64 times very long ones.
+/// Handles 64 paths of each kind, `times` times; the first time, and every 64th after that, two
+/// very long ones too.
 pub fn awkward(
     alloc: Global,
     times: u64,

@@ -1,4 +1,4 @@
-//! A number that hangs on all results of a job, in their order.
+//! A number that depends on all results of a job, in their order.
 
 use std::alloc::AllocError;
 use typed_path::{
@@ -6,37 +6,37 @@ use typed_path::{
     TypedPath, UnixComponent, WindowsComponent, WindowsPrefix,
 };
 
-/// The number of the results so far.
+/// The digest of the results so far.
 #[derive(Clone, Copy)]
 pub struct Digest {
     state: u64,
 }
 
 impl Digest {
-    /// Of no results.
+    /// Returns the digest of no results.
     pub fn new() -> Digest {
         Digest { state: 0 }
     }
 
-    /// The number.
+    /// Returns the digest as a number.
     pub fn number(self) -> u64 {
         self.state
     }
 
-    /// Takes a number in.
+    /// Adds a number.
     #[inline]
     pub fn take(&mut self, number: u64) {
         let mixed = (self.state ^ number).wrapping_mul(0x9FB2_1C65_1E98_DF25);
         self.state = mixed ^ (mixed >> 32);
     }
 
-    /// Takes a truth value in.
+    /// Adds a truth value.
     #[inline]
     pub fn flag(&mut self, flag: bool) {
         self.take(u64::from(flag));
     }
 
-    /// Takes bytes in, eight at a time.
+    /// Adds bytes, eight at a time.
     #[inline]
     pub fn bytes(&mut self, bytes: &[u8]) {
         let (words, rest) = bytes.as_chunks::<8>();
@@ -50,7 +50,7 @@ impl Digest {
         self.take(sum);
     }
 
-    /// Takes bytes in that may be there.
+    /// Adds bytes, or that there are none.
     #[inline]
     pub fn some(&mut self, bytes: Option<&[u8]>) {
         match bytes {
@@ -59,20 +59,20 @@ impl Digest {
         }
     }
 
-    /// Takes in a number that may be there, and is not 0.
+    /// Adds a number that is not 0, or that there is none.
     #[inline]
     pub fn noted(&mut self, number: Option<u32>) {
         self.take(u64::from(number.unwrap_or(0)));
     }
 
-    /// Takes a path of either dialect in.
+    /// Adds a path of either dialect.
     #[inline]
     pub fn typed(&mut self, path: TypedPath<'_>) {
         self.flag(matches!(path, Typed::Unix(_)));
         self.bytes(path.as_bytes());
     }
 
-    /// Takes a component in: what it is, and its text.
+    /// Adds a component: what it is, and its bytes.
     #[inline]
     pub fn piece(&mut self, piece: Piece<'_>) {
         match piece.kind {
@@ -85,7 +85,7 @@ impl Digest {
         self.bytes(piece.text);
     }
 
-    /// Takes a component of either dialect in.
+    /// Adds a component of either dialect.
     #[inline]
     pub fn component(&mut self, component: TypedComponent<'_>) {
         let kind = match component {
@@ -109,7 +109,7 @@ impl Digest {
         });
     }
 
-    /// Takes a prefix in: which it is, and its names or its letter.
+    /// Adds a prefix: its kind, and its names or its letter.
     fn prefix(&mut self, prefix: WindowsPrefix<'_>) {
         let (kind, name, share): (u64, &[u8], &[u8]) = match prefix {
             WindowsPrefix::Verbatim(name) => (11, name, b""),
@@ -124,7 +124,7 @@ impl Digest {
         self.bytes(share);
     }
 
-    /// Takes in what a path is refused for.
+    /// Adds the fault for which a path is refused.
     pub fn fault(&mut self, fault: CheckedPathError) {
         self.take(match fault {
             CheckedPathError::InvalidFilename => 2,
@@ -134,7 +134,7 @@ impl Digest {
         });
     }
 
-    /// Takes a refusal in; want of memory ends the job.
+    /// Adds the fault of a refusal. A failed allocation is returned, and ends the job.
     pub fn refusal(&mut self, refusal: PathError) -> Result<(), AllocError> {
         match refusal {
             PathError::Checked(fault) => self.fault(fault),
@@ -143,7 +143,7 @@ impl Digest {
         Ok(())
     }
 
-    /// Takes in that a path is absolute nowhere; want of memory ends the job.
+    /// Adds that a path is ambiguous. A failed allocation is returned, and ends the job.
     pub fn nowhere(&mut self, refusal: AbsolutizeError) -> Result<(), AllocError> {
         match refusal {
             AbsolutizeError::Ambiguous => self.take(6),

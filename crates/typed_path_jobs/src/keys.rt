@@ -1,4 +1,4 @@
-//! Paths as keys: sorted, doubles dropped, looked up.
+//! Paths as keys: sorted, without duplicates, and looked up.
 
 use crate::digest::Digest;
 use crate::random::Random;
@@ -9,13 +9,13 @@ use std::collections::{BTreeMap, HashMap};
 use typed_path::{Encoding, Path, PathBuf, UnixEncoding, WindowsEncoding};
 use typed_path_uses::{note, noted};
 
-/// How many of a thousand paths are looked up in another writing.
+/// How many of a thousand paths are looked up as they are written otherwise.
 const OFTEN: usize = 250;
 
-/// How many of a thousand paths are there in another writing too.
+/// How many of a thousand paths are there as they are written otherwise too.
 const DOUBLES: usize = 10;
 
-/// Sorts paths, and drops those that are there already.
+/// Sorts paths, and adds each to the digest unless it equals the one before.
 fn sort<T: Encoding>(
     alloc: Global,
     names: &[&[u8]],
@@ -36,7 +36,7 @@ fn sort<T: Encoding>(
     Ok(())
 }
 
-/// Puts a path in another writing: with its last separator doubled.
+/// Appends a path as it is written otherwise: with its last separator doubled.
 fn put_otherwise(texts: &mut Texts, separator: &[u8], path: &[u8]) -> Result<(), AllocError> {
     let at = path
         .iter()
@@ -47,7 +47,7 @@ fn put_otherwise(texts: &mut Texts, separator: &[u8], path: &[u8]) -> Result<(),
     texts.put(path.get(at..).unwrap_or(b""))
 }
 
-/// Puts names into an order that is drawn.
+/// Puts names into a random order.
 fn shuffle(random: &mut Random, names: &mut Vec<&[u8]>) {
     let count = names.len();
     for index in 0..count {
@@ -58,7 +58,7 @@ fn shuffle(random: &mut Random, names: &mut Vec<&[u8]>) {
     }
 }
 
-/// Notes a number at each path, in a map by order and in one by hash, and looks paths up in both.
+/// Notes a number at each path, in an ordered map and in a hash map, and looks paths up in both.
 fn look_up<T: Encoding>(
     alloc: Global,
     names: &[&[u8]],
@@ -82,7 +82,7 @@ fn look_up<T: Encoding>(
     Ok(())
 }
 
-/// Takes the files of one tree as keys, and some of them in another writing too.
+/// Uses the files of one tree as keys, and some of them as they are written otherwise too.
 fn keys_of<T: Encoding>(
     alloc: Global,
     random: &mut Random,
@@ -115,7 +115,8 @@ fn keys_of<T: Encoding>(
     look_up::<T>(alloc, &names.list(alloc)?, &wanted, digest)
 }
 
-/// Takes so many thousands of paths of one tree of each system as keys.
+/// Uses paths of one tree of each system as keys: `thousands` times 1,000 of each, at most a
+/// million.
 pub fn keys(
     alloc: Global,
     thousands: u64,

@@ -1,4 +1,4 @@
-//! Lines of all commands, some bad, answered by a run.
+//! Lines of all commands, some of them bad, which the loop of the program answers.
 
 use crate::digest::Digest;
 use crate::random::Random;
@@ -10,7 +10,7 @@ use typed_path::{StdSink, StdSource, answer_lines, exit_status};
 /// How many lines an input has on paths of each system.
 const LINES: usize = 1_800;
 
-/// How many inputs are told apart by their letters alone, before other lines are made.
+/// How many inputs differ by their letters alone, before other lines are made.
 const RENEWALS: u64 = 32;
 
 /// The commands, each with its tab.
@@ -24,10 +24,10 @@ const COMMANDS: &[&[u8]] = &[
     b"derive\t",
 ];
 
-/// The names of the dialects.
+/// The names of the dialects, each with its tab.
 const DIALECTS: &[&[u8]] = &[b"unix\t", b"windows\t"];
 
-/// What lines begin with that are bad.
+/// What bad lines begin with.
 const BAD: &[&[u8]] = &[
     b"normalise\tunix\t",
     b"\t",
@@ -36,7 +36,7 @@ const BAD: &[&[u8]] = &[
     b"convert\tunix\t",
 ];
 
-/// Puts one line, on a path of a tree, or on one that is joined to a folder there.
+/// Appends one line, on a path of `tree`, or on a folder of it and a path of `joined`.
 fn put_line(
     random: &mut Random,
     (tree, joined): (&Tree, &Tree),
@@ -65,7 +65,7 @@ fn put_line(
     texts.put(b"\n")
 }
 
-/// An input of lines, half of them on paths of each system.
+/// Returns an input of lines, half of them on paths of each system.
 fn input(alloc: Global, random: &mut Random) -> Result<Texts, AllocError> {
     let joined = Tree::new(alloc, random, unix(50), &[b"", b"", b"", b"../", b"/"], 50)?;
     let mut texts = Texts::new(alloc);
@@ -89,7 +89,7 @@ fn input(alloc: Global, random: &mut Random) -> Result<Texts, AllocError> {
     Ok(texts)
 }
 
-/// Answers so many inputs.
+/// Answers the lines of `inputs` inputs.
 pub fn answer(
     alloc: Global,
     inputs: u64,

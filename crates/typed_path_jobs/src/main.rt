@@ -1,5 +1,5 @@
-//! Jobs over many paths, which are timed: `typed_path_jobs JOB COUNT SEED` does a job so many times over
-//! inputs that the seed draws, and prints a digest of all its results. `all` does each job.
+//! Jobs over many paths, which are timed: `typed_path_jobs JOB COUNT SEED` does a job so many times
+//! over inputs drawn from the seed, and prints a digest of all its results. `all` does each job.
 #![tactic(auto)]
 
 mod awkward;
@@ -40,7 +40,7 @@ const JOBS: &[(&str, Job)] = &[
     ("awkward", Job::Awkward),
 ];
 
-/// Does a job, and answers the digest of its results.
+/// Does a job, and returns the digest of its results.
 fn done(alloc: Global, job: Job, count: u64, seed: u64) -> Result<u64, AllocError> {
     let mut random = Random::new(seed);
     let mut digest = Digest::new();
@@ -55,7 +55,7 @@ fn done(alloc: Global, job: Job, count: u64, seed: u64) -> Result<u64, AllocErro
     Ok(digest.number())
 }
 
-/// Does the jobs of a name, and prints a line for each.
+/// Does the jobs that a name stands for, and prints a line for each.
 fn run(rt: &(impl Print + AllocGlobal), name: &str, count: u64, seed: u64) -> Result<()> {
     let mut known = false;
     for (job_name, job) in JOBS {

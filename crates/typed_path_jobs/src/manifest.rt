@@ -12,10 +12,10 @@ use typed_path_uses::entry_on_windows;
 /// How many entries a manifest has.
 const ENTRIES: usize = 1_000;
 
-/// How many of a thousand have a detour.
+/// How many of a thousand entries have a detour.
 const OFTEN: usize = 333;
 
-/// Brings entries into their normal texts, and makes them absolute from a directory.
+/// Normalizes entries, and makes them absolute from a directory.
 fn tidy<T: Encoding>(
     alloc: Global,
     entries: &[&[u8]],
@@ -32,7 +32,7 @@ fn tidy<T: Encoding>(
     Ok(())
 }
 
-/// Writes entries of Unix for Windows.
+/// Converts entries from Unix to Windows.
 fn to_windows(alloc: Global, entries: &[&[u8]], digest: &mut Digest) -> Result<(), AllocError> {
     for entry in entries {
         let path = UnixPath::new(entry);
@@ -45,7 +45,7 @@ fn to_windows(alloc: Global, entries: &[&[u8]], digest: &mut Digest) -> Result<(
     Ok(())
 }
 
-/// Writes entries of Windows for Unix.
+/// Converts entries from Windows to Unix.
 fn to_unix(alloc: Global, entries: &[&[u8]], digest: &mut Digest) -> Result<(), AllocError> {
     for entry in entries {
         let path = WindowsPath::new(entry);
@@ -58,7 +58,7 @@ fn to_unix(alloc: Global, entries: &[&[u8]], digest: &mut Digest) -> Result<(), 
     Ok(())
 }
 
-/// Writes so many manifests of each system anew.
+/// Writes `manifests` manifests of each system anew.
 pub fn manifest(
     alloc: Global,
     manifests: u64,

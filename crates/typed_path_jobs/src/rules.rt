@@ -8,13 +8,13 @@ use std::alloc::{AllocError, Global};
 use typed_path::{Encoding, Path, PathType, TypedPath, UnixEncoding, UnixPath, WindowsEncoding};
 use typed_path_uses::{Rule, is_ignored, listing};
 
-/// How many paths are asked of a tree, before they are named anew.
+/// How many paths of a tree are asked, before they get other letters.
 const PATHS: usize = 1_000;
 
 /// How many rules there are, and how many folders the paths are compared with.
 const RULES: usize = 12;
 
-/// Lines of rules: a folder with any one name behind it, some taken back.
+/// Returns lines of rules: a folder with any one name after it, some with a `!` in front.
 fn lines(alloc: Global, random: &mut Random, tree: &Tree, any: &[u8]) -> Result<Texts, AllocError> {
     let mut texts = Texts::new(alloc);
     for _ in 0..RULES {
@@ -28,7 +28,7 @@ fn lines(alloc: Global, random: &mut Random, tree: &Tree, any: &[u8]) -> Result<
     Ok(texts)
 }
 
-/// Asks a path what it answers about itself.
+/// Asks a path about itself.
 fn ask<T: Encoding>(path: Path<'_, T>, digest: &mut Digest) {
     digest.some(path.file_name());
     digest.some(path.extension());
@@ -48,8 +48,8 @@ fn ask<T: Encoding>(path: Path<'_, T>, digest: &mut Digest) {
     digest.flag(path.is_valid());
 }
 
-/// Asks whether a path lies below a folder, and what it is there; and whether it ends as that, or else
-/// in a name.
+/// Asks whether a path begins with `folder`, and what is left after it; and whether it ends with
+/// that, or else with `name`.
 fn compare<T: Encoding>(path: Path<'_, T>, folder: &[u8], name: &[u8], digest: &mut Digest) {
     digest.flag(path.starts_with(Path::new(folder)));
     let end = match path.strip_prefix(Path::new(folder)) {
@@ -62,7 +62,7 @@ fn compare<T: Encoding>(path: Path<'_, T>, folder: &[u8], name: &[u8], digest: &
     digest.some(path.parent().map(|parent| parent.as_bytes()));
 }
 
-/// Asks a path whose dialect is known when the program runs.
+/// Asks a path whose dialect is known only at run time.
 fn ask_typed(path: TypedPath<'_>, digest: &mut Digest) {
     digest.some(path.file_name());
     digest.some(path.extension());
@@ -74,7 +74,7 @@ fn ask_typed(path: TypedPath<'_>, digest: &mut Digest) {
     }
 }
 
-/// The rules of lines.
+/// Returns the rules of lines.
 fn rules<'a>(alloc: Global, lines: &[&'a [u8]]) -> Result<Vec<Rule<'a>>, AllocError> {
     let mut rules = Vec::with_capacity(alloc, lines.len())?;
     for line in lines {
@@ -83,7 +83,7 @@ fn rules<'a>(alloc: Global, lines: &[&'a [u8]]) -> Result<Vec<Rule<'a>>, AllocEr
     Ok(rules)
 }
 
-/// Asks the paths of one tree, named anew for each question that the others hold too.
+/// Asks the paths of one tree, which get other letters for each group of questions.
 fn rules_of<T: Encoding>(
     alloc: Global,
     random: &mut Random,
@@ -118,7 +118,7 @@ fn rules_of<T: Encoding>(
     Ok(())
 }
 
-/// Asks the paths of so many trees of each system.
+/// Asks the paths of `trees` trees of each system.
 pub fn ask_rules(
     alloc: Global,
     trees: u64,

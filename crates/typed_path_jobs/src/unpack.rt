@@ -1,4 +1,4 @@
-//! The names of archives, each put below a base by a checked join.
+//! The names of archives, each joined to a base by a checked join.
 
 use crate::digest::Digest;
 use crate::random::Random;
@@ -8,7 +8,7 @@ use std::alloc::{AllocError, Global};
 use typed_path::{Encoding, Path, TypedPath, UnixEncoding, WindowsEncoding};
 use typed_path_uses::{typed_target, unpacked};
 
-/// What some names begin with that lead elsewhere or are nowhere allowed.
+/// What hostile names begin with: they lead elsewhere, or some system does not allow them.
 const HOSTILE: &[&[u8]] = &[
     b"../",
     b"/etc/",
@@ -31,10 +31,10 @@ const HOSTILE: &[&[u8]] = &[
 /// How many names an archive has.
 const NAMES: usize = 1_000;
 
-/// How many of a thousand are hostile.
+/// How many of a thousand names are hostile.
 const OFTEN: usize = 30;
 
-/// The names of an archive: some hostile, some with a detour.
+/// Returns the names of an archive: some hostile, some with a detour.
 fn names(alloc: Global, random: &mut Random, style: Style) -> Result<Texts, AllocError> {
     let tree = Tree::new(alloc, random, style, &[b"", b"./"], 200)?;
     let mut texts = Texts::new(alloc);
@@ -66,7 +66,7 @@ fn unpack_onto<T: Encoding>(
     Ok(())
 }
 
-/// Puts each name below a base whose dialect is known when the program runs.
+/// Joins each name to a base whose dialect is known only at run time.
 fn targets(
     alloc: Global,
     base: TypedPath<'_>,
@@ -82,7 +82,7 @@ fn targets(
     Ok(())
 }
 
-/// A verbatim base, as a canonical path of Windows is.
+/// Returns a verbatim base, as a canonical Windows path is.
 fn verbatim(alloc: Global, random: &mut Random) -> Result<Texts, AllocError> {
     let tree = Tree::new(
         alloc,
@@ -94,7 +94,7 @@ fn verbatim(alloc: Global, random: &mut Random) -> Result<Texts, AllocError> {
     tree.files(alloc, random, 1)
 }
 
-/// Unpacks so many archives, onto each base one with names of its own.
+/// Unpacks an archive onto each base, `archives` times, each archive with names of its own.
 pub fn unpack(
     alloc: Global,
     archives: u64,
