@@ -41,10 +41,11 @@ pub enum Make {
     WithWindowsChecked,
 }
 
-/// For how many bytes more there is to be room.
+/// For how many bytes more room is reserved.
 const MORE: usize = 100;
 
-/// How a change of an owned path ended, once there is room for more where that is asked.
+/// Makes a change of an owned path, with room reserved before if `$room` is true, and evaluates to
+/// how it ended, as `Ok`. An allocation that fails before the change is returned as an error.
 macro_rules! change {
     ($of:expr, $path:ident => $bytes:expr, $change:expr, $other:expr, $name:expr, $row:expr, $room:expr) => {{
         let mut $path = $of;
@@ -65,7 +66,8 @@ macro_rules! change {
     }};
 }
 
-/// How a call ended that makes a path, which a function of `ended` judges.
+/// Makes a call that makes a path, and evaluates to how it ended, as the function `$judged` of
+/// `ended` says.
 macro_rules! make {
     ($judged:ident, $path:expr, $make:expr, $alloc:expr, $other:expr, $name:expr, $at:expr, $row:expr) => {
         match $make {
@@ -88,7 +90,7 @@ macro_rules! make {
     };
 }
 
-/// How a change of a path of bytes ended.
+/// Makes a change of a path of bytes, and returns how it ended.
 pub fn change_bytes<T: Encoding>(
     alloc: Global,
     call: Change,
@@ -100,7 +102,7 @@ pub fn change_bytes<T: Encoding>(
     change!(owned, path => path.as_path().as_bytes(), call, Path::new(name), name, row, room)
 }
 
-/// How a change of a path of text ended.
+/// Makes a change of a path of text, and returns how it ended.
 pub fn change_text<T: Utf8Encoding>(
     alloc: Global,
     call: Change,
@@ -112,7 +114,7 @@ pub fn change_text<T: Utf8Encoding>(
     change!(owned, path => path.as_path().as_str().as_bytes(), call, other, name, row, room)
 }
 
-/// How a change of a path of either dialect ended.
+/// Makes a change of a path of either dialect, and returns how it ended.
 pub fn change_typed(
     alloc: Global,
     kind: PathType,
@@ -125,7 +127,7 @@ pub fn change_typed(
     change!(owned, path => path.as_bytes(), call, name, name, row, room)
 }
 
-/// How a change of a path of text of either dialect ended.
+/// Makes a change of a path of text of either dialect, and returns how it ended.
 pub fn change_typed_text(
     alloc: Global,
     kind: PathType,
@@ -137,7 +139,7 @@ pub fn change_typed_text(
     change!(owned, path => path.as_str().as_bytes(), call, row.1, row.1, row, room)
 }
 
-/// How a call ended that makes a path of a path of bytes.
+/// Makes a path of a path of bytes, and returns how that ended.
 pub fn make_bytes<T: Encoding>(alloc: Global, call: Make, row: Row) -> Ended {
     let (path, name) = (Path::<T>::new(row.0.as_bytes()), row.1.as_bytes());
     make!(
@@ -152,7 +154,7 @@ pub fn make_bytes<T: Encoding>(alloc: Global, call: Make, row: Row) -> Ended {
     )
 }
 
-/// How a call ended that makes a path of a path of text.
+/// Makes a path of a path of text, and returns how that ended.
 pub fn make_text<T: Utf8Encoding>(alloc: Global, call: Make, row: Row) -> Ended {
     let (path, name) = (Utf8Path::<T>::new(row.0), row.1);
     make!(
@@ -167,7 +169,8 @@ pub fn make_text<T: Utf8Encoding>(alloc: Global, call: Make, row: Row) -> Ended 
     )
 }
 
-/// How a call ended that makes a path of an owned one of either dialect, which stays as it is.
+/// Makes a path of an owned one of either dialect, which must stay as it is, and returns how that
+/// ended.
 pub fn make_typed(
     alloc: Global,
     kind: PathType,
@@ -189,7 +192,8 @@ pub fn make_typed(
     Ok(ended.and(Ended::done(path.as_bytes() == base.as_bytes(), base)))
 }
 
-/// How a call ended that makes a path of an owned text of either dialect, which stays as it is.
+/// Makes a path of an owned one of text of either dialect, which must stay as it is, and returns
+/// how that ended.
 pub fn make_typed_text(
     alloc: Global,
     kind: PathType,

@@ -1,4 +1,4 @@
-//! Copies of a path, its JSON value, and what it becomes in encodings that are named by a type.
+//! Copies of a path, its JSON value, and its conversions to encodings that a type names.
 
 use crate::ended::{Ended, Refusal, Row, bytes, made, text, typed, typed_text};
 use crate::{tell, tell_all};
@@ -14,20 +14,20 @@ use typed_path::{
 /// A path that is copied, and how it is written on Unix.
 pub type Copied = (&'static str, &'static str);
 
-/// What bytes that are no text are shown as.
+/// A path that is not UTF-8, and what it is as text.
 const LOSSY: Row = ("byte 255", "", "\u{FFFD}");
 
-/// How a call ended that makes a JSON text.
+/// Returns how a call ended that makes a JSON value of a path.
 fn value(made: Result<Value, ValueError>, row: Row) -> Ended {
     made!(made, row, value => value.as_str().unwrap_or("").as_bytes())
 }
 
-/// A JSON text.
+/// Returns a JSON string.
 fn value_of(alloc: Global, text: &str) -> Result<Value, AllocError> {
     Ok(Value::from(String::from_str(alloc, text)?))
 }
 
-/// Tells calls of a path of bytes that is written so on Unix.
+/// Makes copies of a path of bytes, and prints how each call ended.
 pub fn copy_bytes<T: Encoding>(
     rt: &impl Print,
     alloc: Global,
@@ -77,7 +77,7 @@ pub fn copy_bytes<T: Encoding>(
     tell_all(rt, family, &told)
 }
 
-/// Tells calls of a path of text that is written so on Unix.
+/// Makes copies of a path of text, and prints how each call ended.
 pub fn copy_text<T: Utf8Encoding>(
     rt: &impl Print,
     alloc: Global,
@@ -123,7 +123,7 @@ pub fn copy_text<T: Utf8Encoding>(
     tell_all(rt, family, &told)
 }
 
-/// Tells calls of a path of either dialect, whose kind its text looks like.
+/// Makes copies of a path in the dialect that it looks like, and prints how each call ended.
 pub fn copy_typed(
     rt: &impl Print,
     alloc: Global,
@@ -173,7 +173,8 @@ pub fn copy_typed(
     tell_all(rt, family, &told)
 }
 
-/// Tells calls of a path of text of either dialect, whose kind its text looks like.
+/// Makes copies of a path of text in the dialect that it looks like, and prints how each call
+/// ended.
 pub fn copy_typed_text(
     rt: &impl Print,
     alloc: Global,

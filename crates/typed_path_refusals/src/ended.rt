@@ -1,4 +1,4 @@
-//! How a call ends where memory may be refused.
+//! How a call ends if allocation may fail.
 
 use std::alloc::AllocError;
 use typed_path::{
@@ -6,19 +6,19 @@ use typed_path::{
     Utf8PathBuf, Utf8TypedPathBuf, ValueError,
 };
 
-/// How a call, or several of one name, ended.
+/// How a call ended, or several of one name.
 #[derive(Clone, Copy)]
 pub enum Ended {
-    /// The answer is the one that is wanted.
+    /// The call returned what it should.
     Done,
-    /// The answer is want of memory, and what was handed in is as it was.
+    /// An allocation failed, and what was handed in is unchanged.
     Refused,
-    /// It is something else, when the call was asked of this text.
+    /// Anything else. This is the path that the call was made with.
     Wrong(&'static str),
 }
 
 impl Ended {
-    /// How a call ended that did something: rightly, or not.
+    /// Returns how a call ended that did not fail: done if it is right, else wrong with `of`.
     pub fn done(is_right: bool, of: &'static str) -> Ended {
         if is_right {
             Ended::Done
@@ -27,7 +27,7 @@ impl Ended {
         }
     }
 
-    /// How a call ended that was refused: rightly, or not.
+    /// Returns how a call ended that failed: refused if it is right, else wrong with `of`.
     pub fn refused(is_right: bool, of: &'static str) -> Ended {
         if is_right {
             Ended::Refused
@@ -36,7 +36,7 @@ impl Ended {
         }
     }
 
-    /// How two calls ended: the worse of both.
+    /// Returns how two calls ended: the worse of both.
     pub fn and(self, other: Ended) -> Ended {
         match (self, other) {
             (Ended::Wrong(_), _) | (Ended::Refused, Ended::Done) => self,
@@ -45,9 +45,9 @@ impl Ended {
     }
 }
 
-/// Why a call refused.
+/// Why a call failed.
 pub trait Refusal {
-    /// Whether memory was refused.
+    /// Whether an allocation failed.
     fn is_want(&self) -> bool;
 }
 
@@ -81,12 +81,12 @@ impl Refusal for ValueError {
     }
 }
 
-/// Why a path that was asked for is not there.
+/// Why there is no path.
 #[derive(Clone, Copy, Debug)]
 pub enum Missing {
-    /// Memory was refused.
+    /// An allocation failed.
     Memory,
-    /// There is none.
+    /// No path is what was asked for.
     NoPath,
 }
 
@@ -96,7 +96,7 @@ impl Refusal for Missing {
     }
 }
 
-/// The path that a call answers which may answer none.
+/// Returns the path of a call that may return none, which becomes an error.
 pub fn there<P: Drop>(made: Result<Option<P>, AllocError>) -> Result<P, Missing> {
     match made {
         Ok(Some(path)) => Ok(path),
@@ -105,10 +105,10 @@ pub fn there<P: Drop>(made: Result<Option<P>, AllocError>) -> Result<P, Missing>
     }
 }
 
-/// What a call is asked of, what it is given, and the text that is wanted then.
+/// A path with which a call is made, its argument, and the text of what it should return.
 pub type Row = (&'static str, &'static str, &'static str);
 
-/// How a change ended that left these bytes. Where there was room it may not be refused.
+/// Returns how a change ended that left the bytes `now`. If there was room, it may not fail.
 pub fn changed<V: Drop, E: Refusal + Drop>(
     outcome: Result<V, E>,
     now: &[u8],
@@ -124,7 +124,7 @@ pub fn changed<V: Drop, E: Refusal + Drop>(
     }
 }
 
-/// How a call ended that makes a new value, whose bytes are told.
+/// Evaluates to how a call ended that makes a value with the bytes `$bytes`.
 macro_rules! made {
     ($made:expr, $row:expr, $value:ident => $bytes:expr) => {{
         let (base, _, wanted) = $row;
@@ -137,12 +137,12 @@ macro_rules! made {
 
 pub(crate) use made;
 
-/// How a call ended that makes a path of bytes.
+/// Returns how a call ended that makes a path of bytes.
 pub fn bytes<T: Encoding, E: Refusal + Drop>(made: Result<PathBuf<T>, E>, row: Row) -> Ended {
     made!(made, row, path => path.as_path().as_bytes())
 }
 
-/// How a call ended that makes a path of text.
+/// Returns how a call ended that makes a path of text.
 pub fn text<T: Utf8Encoding, E: Refusal + Drop>(
     made: Result<Utf8PathBuf<T>, E>,
     row: Row,
@@ -150,12 +150,12 @@ pub fn text<T: Utf8Encoding, E: Refusal + Drop>(
     made!(made, row, path => path.as_path().as_str().as_bytes())
 }
 
-/// How a call ended that makes a path of either dialect.
+/// Returns how a call ended that makes a path of either dialect.
 pub fn typed<E: Refusal + Drop>(made: Result<TypedPathBuf, E>, row: Row) -> Ended {
     made!(made, row, path => path.as_bytes())
 }
 
-/// How a call ended that makes a path of text of either dialect.
+/// Returns how a call ended that makes a path of text of either dialect.
 pub fn typed_text<E: Refusal + Drop>(made: Result<Utf8TypedPathBuf, E>, row: Row) -> Ended {
     made!(made, row, path => path.as_str().as_bytes())
 }

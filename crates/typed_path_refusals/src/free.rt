@@ -1,4 +1,4 @@
-//! Calls that want no memory: they end as ever, also where every request is refused.
+//! Calls that need no memory: they succeed even if every allocation fails.
 
 use crate::ended::Ended;
 use crate::{tell, tell_all};
@@ -12,17 +12,17 @@ use typed_path::{
     Utf8TypedPathBuf, Utf8UnixPathBuf, Utf8WindowsPathBuf, ValueError, WindowsPathBuf,
 };
 
-/// What a checked call answers to a parent.
+/// What a checked call returns for `..`.
 const ESCAPES: PathError = PathError::Checked(CheckedPathError::PathTraversalAttack);
 
-/// And what a portable join answers to it.
+/// What a portable join returns for `..`.
 const JOIN_ESCAPES: JoinError = JoinError::Checked(CheckedPathError::PathTraversalAttack);
 
-/// A base, its parent, how many components it has and how many ancestors, and the kind that it looks
-/// like.
+/// A base, its parent, how many components and how many ancestors it has, and the dialect that it
+/// looks like.
 pub type Base = (&'static str, &'static str, usize, usize, PathType);
 
-/// How many items there are.
+/// Evaluates to the number of items.
 macro_rules! number_of {
     ($items:expr) => {{
         let mut number = 0usize;
@@ -33,7 +33,7 @@ macro_rules! number_of {
     }};
 }
 
-/// How calls ended of a base, lent and owned, once it has room to give back.
+/// Makes calls of a base, borrowed and owned with room to give back, and prints how each ended.
 macro_rules! free {
     ($rt:expr, $family:expr, $lent:expr, $new:expr, $owned:expr, $path:ident: $buf:ty => $bytes:expr, $into:ident.$as_bytes:ident, $alloc:expr, $parent:expr, $whole:expr, $base:expr) => {{
         let (base, above, count, above_count, kind) = $base;
@@ -83,7 +83,7 @@ macro_rules! free {
     }};
 }
 
-/// How questions ended of a base, alone and beside itself and its parent.
+/// Evaluates to how questions about a base ended, alone and beside itself and its parent.
 macro_rules! asked {
     ($lent:expr, $alloc:expr, $parent:expr, $whole:expr, $base:expr) => {{
         let (base, _, _, _, _) = $base;
@@ -104,7 +104,8 @@ macro_rules! asked {
     }};
 }
 
-/// How two calls ended of bytes: of a text, and of a byte that is none.
+/// Evaluates to how two calls ended that read bytes as text: of a text, and of a byte that is not
+/// UTF-8.
 macro_rules! read_as_text {
     ($lent:expr, $no_text:expr, $alloc:expr, $base:expr) => {{
         let (base, _, _, _, _) = $base;
@@ -120,7 +121,7 @@ macro_rules! read_as_text {
     }};
 }
 
-/// How a path ended that was taken out of one of either dialect, and put back.
+/// Evaluates to how it ended to take a path out of one of either dialect, and to put it back.
 macro_rules! taken_out {
     ($owned:expr, $typed:ident, $unix:ty, $windows:ty, $path:ident => $bytes:expr, $base:expr) => {{
         let (base, _, _, _, kind) = $base;
@@ -140,7 +141,7 @@ macro_rules! taken_out {
     }};
 }
 
-/// Tells such questions of a path of bytes.
+/// Asks a path of bytes the questions that need no memory, and prints how each ended.
 fn asked_bytes<T: Encoding>(
     rt: &impl Print,
     alloc: Global,
@@ -152,7 +153,7 @@ fn asked_bytes<T: Encoding>(
     tell_all(rt, family, &told)
 }
 
-/// Tells such calls of a path of bytes.
+/// Makes the calls of a path of bytes that need no memory, and prints how each ended.
 pub fn free_bytes<T: Encoding>(
     rt: &impl Print,
     alloc: Global,
@@ -170,7 +171,7 @@ pub fn free_bytes<T: Encoding>(
     tell_all(rt, family, &told)
 }
 
-/// Tells such questions of a path of text.
+/// Asks a path of text the questions that need no memory, and prints how each ended.
 fn asked_text<T: Utf8Encoding>(
     rt: &impl Print,
     alloc: Global,
@@ -182,7 +183,7 @@ fn asked_text<T: Utf8Encoding>(
     tell_all(rt, family, &told)
 }
 
-/// How a path of text ended that became one of bytes, and came back.
+/// Returns how it ended to make a path of text one of bytes, and to turn it back.
 fn there_and_back<T: Utf8Encoding>(alloc: Global, base: &'static str) -> Ended {
     match Utf8PathBuf::<T>::from_str(alloc, base) {
         Ok(path) => match Utf8PathBuf::<T>::from_bytes_path_buf(path.into_bytes_path_buf()) {
@@ -193,7 +194,7 @@ fn there_and_back<T: Utf8Encoding>(alloc: Global, base: &'static str) -> Ended {
     }
 }
 
-/// Tells such calls of a path of text.
+/// Makes the calls of a path of text that need no memory, and prints how each ended.
 pub fn free_text<T: Utf8Encoding>(
     rt: &impl Print,
     alloc: Global,
@@ -211,14 +212,14 @@ pub fn free_text<T: Utf8Encoding>(
     tell(rt, family, "into_bytes_path_buf and back", ended)
 }
 
-/// Tells such questions of a path of either dialect.
+/// Asks a path of either dialect the questions that need no memory, and prints how each ended.
 fn asked_typed(rt: &impl Print, alloc: Global, family: &str, base: Base) -> io::Result<()> {
     let lent = TypedPath::derive(base.0.as_bytes());
     let told = asked!(lent, alloc, b"..", base.0.as_bytes(), base);
     tell_all(rt, family, &told)
 }
 
-/// Tells such calls of a path of either dialect.
+/// Makes the calls of a path of either dialect that need no memory, and prints how each ended.
 pub fn free_typed(rt: &impl Print, alloc: Global, family: &str, base: Base) -> io::Result<()> {
     asked_typed(rt, alloc, family, base)?;
     let lent = TypedPath::derive(base.0.as_bytes());
@@ -231,14 +232,16 @@ pub fn free_typed(rt: &impl Print, alloc: Global, family: &str, base: Base) -> i
     tell(rt, family, "try_from", taken)
 }
 
-/// Tells such questions of a path of text of either dialect.
+/// Asks a path of text of either dialect the questions that need no memory, and prints how each
+/// ended.
 fn asked_typed_text(rt: &impl Print, alloc: Global, family: &str, base: Base) -> io::Result<()> {
     let lent = Utf8TypedPath::derive(base.0);
     let told = asked!(lent, alloc, "..", base.0, base);
     tell_all(rt, family, &told)
 }
 
-/// Tells such calls of a path of text of either dialect.
+/// Makes the calls of a path of text of either dialect that need no memory, and prints how each
+/// ended.
 pub fn free_typed_text(rt: &impl Print, alloc: Global, family: &str, base: Base) -> io::Result<()> {
     asked_typed_text(rt, alloc, family, base)?;
     let lent = Utf8TypedPath::derive(base.0);

@@ -1,4 +1,5 @@
-//! Calls that lend or ask of an owned path, which has an allocator at hand: they want no memory.
+//! Calls that borrow from an owned path or ask about it. It has an allocator, but they need no
+//! memory.
 
 use crate::ended::Ended;
 use crate::free::Base;
@@ -9,7 +10,8 @@ use typed_path::{
     Encoding, Path, PathBuf, TypedPath, Utf8Encoding, Utf8Path, Utf8PathBuf, Utf8TypedPath,
 };
 
-/// How calls ended of an owned path whose dialect is fixed: it is lent, and compared with its own copy.
+/// Borrows an owned path whose type fixes the dialect, compares it with a copy, and prints how each
+/// call ended.
 macro_rules! lends {
     ($rt:expr, $family:expr, $one:expr, $two:expr, $lent:expr, $base:expr) => {{
         let (base, _, _, _, _) = $base;
@@ -26,7 +28,8 @@ macro_rules! lends {
     }};
 }
 
-/// How calls ended of an owned path of either dialect, which answers what the one does that it lends.
+/// Asks an owned path of either dialect, which should answer as the one borrowed from it does, and
+/// prints how each call ended.
 macro_rules! answers {
     ($rt:expr, $family:expr, $owned:expr, $lent:expr, $bytes:ident, $above:expr, $base:expr) => {{
         let (base, _, count, above_count, _) = $base;
@@ -81,7 +84,7 @@ macro_rules! answers {
     }};
 }
 
-/// Tells such calls of a path of bytes.
+/// Borrows and compares a path of bytes, and prints how each call ended.
 pub fn lend_bytes<T: Encoding>(
     rt: &impl Print,
     alloc: Global,
@@ -100,7 +103,7 @@ pub fn lend_bytes<T: Encoding>(
     )
 }
 
-/// Tells such calls of a path of text.
+/// Borrows and compares a path of text, and prints how each call ended.
 pub fn lend_text<T: Utf8Encoding>(
     rt: &impl Print,
     alloc: Global,
@@ -112,7 +115,7 @@ pub fn lend_text<T: Utf8Encoding>(
     lends!(rt, family, one, two, Utf8Path::<T>::new(base.0), base)
 }
 
-/// Tells such calls of a path of either dialect.
+/// Asks an owned path of either dialect, and prints how each call ended.
 pub fn lend_typed(rt: &impl Print, alloc: Global, family: &str, base: Base) -> io::Result<()> {
     let lent = TypedPath::derive(base.0.as_bytes());
     answers!(
@@ -126,7 +129,7 @@ pub fn lend_typed(rt: &impl Print, alloc: Global, family: &str, base: Base) -> i
     )
 }
 
-/// Tells such calls of a path of text of either dialect.
+/// Asks an owned path of text of either dialect, and prints how each call ended.
 pub fn lend_typed_text(rt: &impl Print, alloc: Global, family: &str, base: Base) -> io::Result<()> {
     let lent = Utf8TypedPath::derive(base.0);
     answers!(

@@ -7,14 +7,16 @@ use typed_path::{
     Utf8Encoding, Utf8Path, Utf8PathBuf, read_ends, run_ops,
 };
 
-/// Its ancestors are the paths of a list: `one name/two/b`, `one name/two`, `one name`, and the empty
-/// one, which changes nothing.
+/// A path whose ancestors are the paths of a list: `one name/two/b`, `one name/two`, `one name`,
+/// and the empty one, which changes nothing.
 const LIST: &str = "one name/two/b";
 
-/// A path, and what it is behind the first of the list, behind the second, and behind all.
+/// A path, and what it is once the first of the list is pushed, once the second is, and once all
+/// are.
 pub type States = [&'static str; 4];
 
-/// How a path ended onto which the list was pushed: where memory was refused, with a beginning of it.
+/// Returns how a path ended onto which the list was pushed. If allocation failed, a beginning of
+/// the list may be pushed.
 fn extended(outcome: Result<(), AllocError>, now: &[u8], states: States) -> Ended {
     let [none, one, two, all] = states.map(|state| now == state.as_bytes());
     match outcome {
@@ -23,21 +25,22 @@ fn extended(outcome: Result<(), AllocError>, now: &[u8], states: States) -> Ende
     }
 }
 
-/// How a path of bytes ended that was extended.
+/// Extends a path of bytes by the list, and returns how that ended.
 pub fn extend_bytes<T: Encoding>(alloc: Global, states: States) -> Result<Ended, AllocError> {
     let mut path = PathBuf::<T>::from_str(alloc, states[0])?;
     let outcome = path.extend(Path::new(LIST.as_bytes()).ancestors());
     Ok(extended(outcome, path.as_path().as_bytes(), states))
 }
 
-/// How a path of text ended that was extended.
+/// Extends a path of text by the list, and returns how that ended.
 pub fn extend_text<T: Utf8Encoding>(alloc: Global, states: States) -> Result<Ended, AllocError> {
     let mut path = Utf8PathBuf::<T>::from_str(alloc, states[0])?;
     let outcome = path.extend(Utf8Path::new(LIST).ancestors());
     Ok(extended(outcome, path.as_path().as_str().as_bytes(), states))
 }
 
-/// How two texts ended onto which the first of the list was pushed, by either call of an encoding.
+/// Pushes the first of the list onto two texts, by either call of an encoding, and returns how that
+/// ended.
 pub fn push_text<T: Utf8Encoding>(alloc: Global, states: States) -> Result<Ended, AllocError> {
     let row = (states[0], LIST, states[1]);
     let mut text = String::from_str(alloc, states[0])?;
@@ -52,7 +55,7 @@ pub fn push_text<T: Utf8Encoding>(alloc: Global, states: States) -> Result<Ended
     Ok(pushed.and(checked))
 }
 
-/// How the empty path of Unix ended that was extended by three names.
+/// Extends the empty Unix path by three names, and returns how that ended.
 pub fn extend_nothing(alloc: Global) -> Ended {
     let mut path = UnixPathBuf::new(alloc);
     let (a, b, c) = (
@@ -68,14 +71,14 @@ pub fn extend_nothing(alloc: Global) -> Ended {
     )
 }
 
-/// How a path of bytes ended that was made of the list.
+/// Makes a path of bytes of the list, and returns how that ended.
 pub fn collect_bytes<T: Encoding>(alloc: Global, states: States) -> Result<Ended, AllocError> {
     let list = Path::<T>::new(LIST.as_bytes()).ancestors();
     let path = PathBuf::from_iter(alloc, list)?;
     Ok(Ended::done(path.as_path().as_bytes() == states[3].as_bytes(), states[3]))
 }
 
-/// How a path of text ended that was made of the list.
+/// Makes a path of text of the list, and returns how that ended.
 pub fn collect_text<T: Utf8Encoding>(alloc: Global, states: States) -> Result<Ended, AllocError> {
     let path = Utf8PathBuf::from_iter(alloc, Utf8Path::<T>::new(LIST).ancestors())?;
     Ok(Ended::done(path.as_path().as_str() == states[3], states[3]))
@@ -92,7 +95,7 @@ const OPERATIONS: [PathOp<'static>; 7] = [
     PathOp::Extend(&[b"one name/two/b", b"one name/two", b"one name"]),
 ];
 
-/// What each of them answers.
+/// What each of the operations returns.
 const REPLIES: [Reply; 7] = [
     Reply::Refused(CheckedPathError::PathTraversalAttack),
     Reply::Done,
@@ -103,9 +106,10 @@ const REPLIES: [Reply; 7] = [
     Reply::Done,
 ];
 
-/// How operations on a path of bytes ended, where it is as told behind none, behind one, and so on to
-/// the last but one. Where memory was refused, it is the one behind the replies, but for a beginning
-/// of the last.
+/// Runs the operations on a path of bytes, and returns how that ended. `behind` has what the path
+/// is after none of them, after one, and so on up to all but the last. If allocation failed, the
+/// path should be what it is after those that have replies, or with a beginning of the list pushed
+/// by the last.
 pub fn operate<T: Encoding>(
     alloc: Global,
     behind: [&'static str; 7],
@@ -125,7 +129,7 @@ pub fn operate<T: Encoding>(
     Ok(Ended::refused(is_behind && outcome.is_err(), behind[0]))
 }
 
-/// How a reading from both ends ended. Where memory was refused, it is as it was.
+/// Reads from both ends, and returns how that ended. If allocation failed, nothing should be read.
 pub fn read_both<T: Encoding>(alloc: Global) -> Result<Ended, AllocError> {
     let text = b"a/./b//c".as_slice();
     let mut components = Path::<T>::new(text).components();

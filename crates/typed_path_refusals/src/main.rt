@@ -1,4 +1,5 @@
-//! Asks each call that grows what it answers where memory is refused, and prints a line for each.
+//! Makes the calls of each family while memory may be refused, and prints a line for each that says
+//! how it ended: done, refused, or wrong.
 #![tactic(auto)]
 
 mod calls;
@@ -45,7 +46,8 @@ fn tell_all(rt: &impl Print, family: &str, told: &[(&str, Ended)]) -> io::Result
     Ok(())
 }
 
-/// Tells the calls that every family has: how one change ends, and how one new path does.
+/// Makes the calls that every family has, and prints how each ended with all its rows: first the
+/// changes of an owned path, then those that make a new one.
 macro_rules! tell_rows {
     ($rt:expr, $family:expr, $table:expr, $call:ident, $row:ident, $room:ident => $change:expr, $make:expr) => {
         for (name, call, rows) in $table.changes {
@@ -77,7 +79,7 @@ macro_rules! tell_rows {
     };
 }
 
-/// Tells the calls of paths of bytes.
+/// Makes the calls of paths of bytes, and prints how each ended.
 fn tell_bytes<T: Encoding>(
     rt: &(impl Print + AllocGlobal),
     family: &str,
@@ -100,7 +102,7 @@ fn tell_bytes<T: Encoding>(
     lend_bytes::<T>(rt, alloc, family, table.free)
 }
 
-/// Tells the calls of paths of text.
+/// Makes the calls of paths of text, and prints how each ended.
 fn tell_text<T: Utf8Encoding>(
     rt: &(impl Print + AllocGlobal),
     family: &str,
@@ -122,7 +124,7 @@ fn tell_text<T: Utf8Encoding>(
     lend_text::<T>(rt, alloc, family, table.free)
 }
 
-/// Tells the calls of paths of either dialect.
+/// Makes the calls of paths of either dialect, and prints how each ended.
 fn tell_typed(
     rt: &(impl Print + AllocGlobal),
     family: &str,
@@ -138,7 +140,7 @@ fn tell_typed(
     lend_typed(rt, alloc, family, table.free)
 }
 
-/// Tells the calls of paths of text of either dialect.
+/// Makes the calls of paths of text of either dialect, and prints how each ended.
 fn tell_typed_text(
     rt: &(impl Print + AllocGlobal),
     family: &str,

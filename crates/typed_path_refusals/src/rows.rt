@@ -1,4 +1,5 @@
-//! What each call is asked of in a dialect, and what is wanted then, by the rules of the specification.
+//! The arguments of each call in a dialect, and what it should return by the rules of the
+//! specification.
 
 use crate::calls::{Change, Make};
 use crate::copies::Copied;
@@ -12,21 +13,22 @@ type Rows<C> = (&'static str, C, &'static [Row]);
 
 /// All rows of a dialect.
 pub struct Table {
-    /// Of the calls that change an owned path. Where there is room, none of these may be refused.
+    /// For the calls that change an owned path. If there is room, none of these may fail.
     pub changes: &'static [Rows<Change>],
-    /// Bases that do not stand as a push spells them.
+    /// For pushes onto bases that are not spelled as a push spells them.
     pub anew: &'static [Row],
-    /// Of the calls that make a new path.
+    /// For the calls that make a new path.
     pub makes: &'static [Rows<Make>],
     /// A path that is copied, and how it is written on Unix.
     pub copied: Copied,
-    /// A path that is asked for what wants no memory.
+    /// A path for the calls that need no memory.
     pub free: Base,
-    /// Of a list that is pushed onto a path.
+    /// For a list that is pushed onto a path.
     pub onto: States,
-    /// Of a list that is pushed onto nothing.
+    /// For a list that is pushed onto the empty path.
     pub nothing: States,
-    /// What a path is behind each operation of a list.
+    /// What a path is after none of the operations of a list, after one, and so on up to all but
+    /// the last.
     pub behind: [&'static str; 7],
 }
 
