@@ -1,4 +1,4 @@
-//! What the words behind the program's name ask for, and what the program says.
+//! What the words after the program's name ask for, and what the program prints.
 
 ghost use Rattle.std.specs.Prelude.{◌≡◌, map};
 ghost use Rattle.std.specs.String.{string_bytes};
@@ -34,11 +34,11 @@ refused or the program was called with other words than --help or -h, --version 
 /// What `--version` prints.
 pub const VERSION: &str = "typath, a program over typed_path, which ports typed-path 0.13.0\n";
 
-/// What is printed where the words ask for nothing that there is.
+/// What is printed if the words ask for nothing that exists.
 pub const USAGE: &str =
     "usage: typath [-h | --help | --version | --], with lines on standard input\n";
 
-/// Why the program stopped, as it says behind its name.
+/// Returns why the program stopped, as it prints it after its name.
 pub fn reason(stopped: LineError) -> &'static str {
     match stopped {
         LineError::Read => "standard input: a read failed",
@@ -56,11 +56,11 @@ pub enum Asked {
     Help,
     /// A line about the program.
     Version,
-    /// Nothing that there is.
+    /// Nothing that exists.
     Nothing,
 }
 
-/// What one word behind the program's name asks for.
+/// Returns what one word after the program's name asks for.
 fn by_word(word: &str) -> Asked
     ensures { result ≡ asked_by word.now }
 {
@@ -75,8 +75,8 @@ fn by_word(word: &str) -> Asked
     }
 }
 
-/// What all words ask for, of which the first is the program's name: with no other one, or with the end
-/// of all words alone, replies.
+/// Returns what all words ask for, the first of which is the program's name: replies if there is no
+/// other, or `--` alone.
 pub fn asked_for(words: &[String]) -> Asked
     ensures { result ≡ asked_of (map string_bytes words.now) }
 {

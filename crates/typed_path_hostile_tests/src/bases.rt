@@ -1,5 +1,5 @@
-//! What is left of a path behind a base where the bytes of the two tell, beside the plain form of that
-//! rule: no clause says of which paths and bases they tell.
+//! What is left of a path after a base if the bytes of the two tell, compared with a plain form of
+//! that rule: no clause says of which paths and bases they tell.
 
 use crate::slow::{prefix, put_numbered, separators};
 use std::alloc::AllocError;
@@ -30,23 +30,23 @@ const FRONTS: &[&[u8]] = &[
     br"\\?\x",
 ];
 
-/// The lengths of the texts that are put behind these, and how many texts there are of each.
+/// The lengths of the texts that follow these, and how many texts there are of each.
 const SHORT: [(usize, usize); 3] = [(0, 1), (1, 7), (2, 49)];
 
 /// What the bodies of long bases are made of.
 const BODIES: &[&[u8]] = &[b"a", b"name/", br"a\.\", b"../a/", b"aaaaaaa/"];
 
-/// What is put behind long bases.
+/// What follows long bases.
 const ENDS: &[&[u8]] = &[
     b"", b"/", br"\", b"b", b"/b", br"\.\b", b"/./", b"//.", b"..",
 ];
 
-/// How long they are: on both sides of each length at which a search takes other blocks.
+/// The lengths of long bases: on both sides of each length at which a search takes other blocks.
 const LENGTHS: &[usize] = &[
     1, 3, 4, 5, 7, 8, 9, 15, 16, 17, 31, 32, 33, 47, 63, 64, 65, 68,
 ];
 
-/// The raw prefix of a path, and what stands behind it.
+/// Returns the raw prefix of a path, empty if it has none, and what follows.
 fn parted(windows: bool, path: &[u8]) -> (&[u8], &[u8]) {
     let body = match prefix(path) {
         Some((_, behind)) if windows => behind,
@@ -56,7 +56,8 @@ fn parted(windows: bool, path: &[u8]) -> (&[u8], &[u8]) {
     (path.get(..end).unwrap_or(b""), body)
 }
 
-/// What stands behind a separator that a text begins with, or behind a `.` and a separator.
+/// Returns what follows a separator at the front of a text, or a `.` with a separator or the end
+/// after it. `None` if the text begins otherwise, or with a `.` and is read verbatim.
 fn behind_blank<'a>(text: &'a [u8], own: &[u8]) -> Option<&'a [u8]> {
     match text {
         [first, behind @ ..] if own.contains(first) => Some(behind),
@@ -67,8 +68,9 @@ fn behind_blank<'a>(text: &'a [u8], own: &[u8]) -> Option<&'a [u8]> {
     }
 }
 
-/// What is left of a path behind a base: the two have one prefix and are read alike, what stands behind that in
-/// the path begins with what does in the base, and no component reaches over the end of it.
+/// Returns what is left of a path after a base; `None` unless the two have one prefix and one set
+/// of separators, what follows the prefix of the base is not empty and begins what follows that of
+/// the path, and no component spans its end.
 fn left_behind<'a>(windows: bool, path: &'a [u8], base: &[u8]) -> Option<&'a [u8]> {
     let (front, body) = parted(windows, path);
     let (base_front, base_body) = parted(windows, base);
@@ -94,13 +96,13 @@ fn left_behind<'a>(windows: bool, path: &'a [u8], base: &[u8]) -> Option<&'a [u8
     Some(rest)
 }
 
-/// Whether both encodings answer so.
+/// Whether both encodings return what [`left_behind`] does.
 fn is_left_alike(path: &[u8], base: &[u8]) -> bool {
     UnixEncoding::behind(path, base) == left_behind(false, path, base)
         && WindowsEncoding::behind(path, base) == left_behind(true, path, base)
 }
 
-/// Makes a path a beginning and an end.
+/// Makes `path` the bytes `begin`, and then `end`.
 fn put_path(path: &mut Vec<u8>, begin: &[u8], end: &[u8]) -> Result<(), AllocError> {
     path.clear();
     path.extend_from_slice(begin)?;

@@ -1,4 +1,5 @@
-//! Calls of paths on every short text, beside slow answers that are read off the slow component list.
+//! Calls of paths on every short text, compared with slow answers that are read off the slow
+//! component list.
 
 use crate::slow::{Part, SHORT, parts_of, put_numbered};
 use std::alloc::{AllocError, Global};
@@ -22,7 +23,7 @@ fn is_root(piece: Piece<'_>) -> bool {
     }
 }
 
-/// What is left of a text without its last component.
+/// Returns a path without its last component, `None` if it has none or nothing is above it.
 fn parent<'a>(text: &'a [u8], parts: &[Part<'_>]) -> Option<&'a [u8]> {
     let last = parts.last()?;
     if is_root(last.piece) {
@@ -34,7 +35,7 @@ fn parent<'a>(text: &'a [u8], parts: &[Part<'_>]) -> Option<&'a [u8]> {
     }
 }
 
-/// The last component, where it is a name.
+/// Returns the last component if it is a name, else `None`.
 fn file_name<'a>(parts: &[Part<'a>]) -> Option<&'a [u8]> {
     let last = parts.last()?;
     match last.piece.kind {
@@ -43,7 +44,8 @@ fn file_name<'a>(parts: &[Part<'a>]) -> Option<&'a [u8]> {
     }
 }
 
-/// Takes a list of components over: `.` is left out, and `..` takes a name away, where one is last.
+/// Appends components to a resolved list: `.` is left out, `..` removes a name if one is last, and
+/// a root replaces all but the first.
 fn take_over<'a>(list: &mut Vec<Piece<'a>>, parts: &[Part<'a>]) -> Result<(), AllocError> {
     for part in parts {
         match part.piece.kind {
@@ -63,7 +65,7 @@ fn take_over<'a>(list: &mut Vec<Piece<'a>>, parts: &[Part<'a>]) -> Result<(), Al
     Ok(())
 }
 
-/// The texts of components with `\` between two of which neither is the root.
+/// Appends the texts of components, with `\` between two of which neither is the root.
 fn put_spelled(text: &mut Vec<u8>, list: &[Piece<'_>]) -> Result<(), AllocError> {
     let mut joins = false;
     for piece in list {
@@ -77,7 +79,7 @@ fn put_spelled(text: &mut Vec<u8>, list: &[Piece<'_>]) -> Result<(), AllocError>
     Ok(())
 }
 
-/// Whether a prefix is of one of the three verbatim kinds.
+/// Whether a component is a prefix of one of the three verbatim kinds.
 fn is_verbatim(piece: &Piece<'_>) -> bool {
     matches!(
         piece.kind,
@@ -89,7 +91,7 @@ fn is_verbatim(piece: &Piece<'_>) -> bool {
     )
 }
 
-/// A base, a separator unless the base needs none, and a path.
+/// Appends a base, a separator unless the base is empty or ends with it, and a path.
 fn put_behind(
     text: &mut Vec<u8>,
     base: &[u8],
@@ -103,7 +105,7 @@ fn put_behind(
     text.extend_from_slice(path)
 }
 
-/// A path pushed onto a base of Windows.
+/// Returns a path pushed onto a base of Windows.
 fn pushed_on_windows(alloc: Global, base: &[u8], path: &[u8]) -> Result<Vec<u8>, AllocError> {
     let mut text = Vec::new(alloc);
     let own = parts_of(alloc, true, base)?;
@@ -137,7 +139,7 @@ fn pushed_on_windows(alloc: Global, base: &[u8], path: &[u8]) -> Result<Vec<u8>,
     Ok(text)
 }
 
-/// A path pushed onto a base.
+/// Returns a path pushed onto a base.
 fn pushed(alloc: Global, windows: bool, base: &[u8], path: &[u8]) -> Result<Vec<u8>, AllocError> {
     let mut text = Vec::new(alloc);
     if path.is_empty() {
@@ -152,7 +154,7 @@ fn pushed(alloc: Global, windows: bool, base: &[u8], path: &[u8]) -> Result<Vec<
     Ok(text)
 }
 
-/// The components that a list resolves to, pushed one by one.
+/// Returns the path of the components that a list resolves to, pushed one by one.
 fn normal(alloc: Global, windows: bool, parts: &[Part<'_>]) -> Result<Vec<u8>, AllocError> {
     let mut list = Vec::new(alloc);
     take_over(&mut list, parts)?;
@@ -163,7 +165,8 @@ fn normal(alloc: Global, windows: bool, parts: &[Part<'_>]) -> Result<Vec<u8>, A
     Ok(text)
 }
 
-/// What a path is refused for when it is to be pushed.
+/// Returns the fault for which a checked push refuses a path, `None` if it accepts it. No short
+/// text has a device.
 fn fault(windows: bool, parts: &[Part<'_>]) -> Option<CheckedPathError> {
     let never: &[u8] = if windows { b"\\/:?*\"><|\0" } else { b"/\0" };
     let mut names = 0u32;
@@ -185,7 +188,7 @@ fn fault(windows: bool, parts: &[Part<'_>]) -> Option<CheckedPathError> {
     None
 }
 
-/// Whether a checked join of each base with a text answers as the slow one does.
+/// Whether a checked join of each base with a path returns what the slow one does.
 fn is_joined_alike<T: Encoding>(
     alloc: Global,
     windows: bool,
@@ -208,9 +211,10 @@ fn is_joined_alike<T: Encoding>(
     Ok(true)
 }
 
-/// What a text leads to as it is written: its prefix, the root, written or implied where something follows, the `..`
-/// that find no name, unless there is a root, and the names that no `..` takes away, with a separator between. Without a
-/// prefix and a root, what would be read as a prefix is put behind `.`, and nothing is `.`.
+/// Returns the clean path of a text: its prefix; the root, written or implied, the implied one only
+/// if something follows; without a root the `..` that cancel no name; and the names that no `..`
+/// cancels, with separators between. Without a prefix and a root, `.` and a separator precede what
+/// would be read as a prefix, and nothing becomes `.`.
 fn cleaned(alloc: Global, windows: bool, led: &Led<'_>) -> Result<Vec<u8>, AllocError> {
     let separator = if windows { b'\\' } else { b'/' };
     let mut segments = Vec::new(alloc);
@@ -255,7 +259,7 @@ fn cleaned(alloc: Global, windows: bool, led: &Led<'_>) -> Result<Vec<u8>, Alloc
     Ok(text)
 }
 
-/// Whether the calls on a text answer as its slow component list says.
+/// Whether the calls on a path return what its slow component list says.
 fn is_answered_alike<T: Encoding>(
     alloc: Global,
     windows: bool,
@@ -290,7 +294,7 @@ fn calls_on_every_short_text(rt: HostRuntime) -> Result<(), Fail> {
     Ok(())
 }
 
-/// Whether two lists have the same kinds and names, place by place.
+/// Whether two lists have the same kinds and names, each in its place.
 fn are_same(parts: &[Part<'_>], others: &[Part<'_>]) -> bool {
     parts.len() == others.len()
         && parts.iter().zip(others).all(|(part, other)| {
@@ -301,8 +305,8 @@ fn are_same(parts: &[Part<'_>], others: &[Part<'_>]) -> bool {
         })
 }
 
-/// A text with its slow list, and what that says of where it leads: its names that no `..` takes away, how many
-/// `..` find none to take, and whether it begins with a root, written or implied.
+/// A path with its slow list, and what that says of where it leads: the names that no `..` cancels,
+/// how many `..` cancel no name, and whether it begins with a root, written or implied.
 #[derive(Drop)]
 struct Led<'a> {
     text: &'a [u8],
@@ -324,7 +328,7 @@ fn is_anchored(parts: &[Part<'_>]) -> bool {
     }
 }
 
-/// Reads a text slowly.
+/// Reads a path slowly.
 fn read_slowly(alloc: Global, windows: bool, text: &[u8]) -> Result<Led<'_>, AllocError> {
     let parts = parts_of(alloc, windows, text)?;
     let (mut names, mut unmet) = (Vec::new(alloc), 0u32);
@@ -346,7 +350,7 @@ fn read_slowly(alloc: Global, windows: bool, text: &[u8]) -> Result<Led<'_>, All
     })
 }
 
-/// The prefix that components begin with.
+/// Returns the prefix that components begin with, `None` if they have none.
 fn prefix_of<'a>(parts: &[Part<'a>]) -> Option<WindowsPrefix<'a>> {
     match parts.first()?.piece.kind {
         PieceKind::Prefix(prefix) => Some(prefix),
@@ -354,7 +358,7 @@ fn prefix_of<'a>(parts: &[Part<'a>]) -> Option<WindowsPrefix<'a>> {
     }
 }
 
-/// Whether a text lies within another, as what their lists say of where they lead.
+/// Whether a path lies within another, by what their lists say of where they lead.
 fn is_led_within(own: &Led<'_>, base: &Led<'_>) -> bool {
     let (prefix, other) = (
         prefix_of(own.parts.as_slice()),
@@ -378,12 +382,12 @@ fn is_led_within(own: &Led<'_>, base: &Led<'_>) -> bool {
     prefix == other && (leads || holds)
 }
 
-/// How many `..` of a text lead above where it begins.
+/// Returns how many `..` of a path lead above where it begins.
 fn rising(led: &Led<'_>) -> u32 {
     if led.is_anchored { 0 } else { led.unmet }
 }
 
-/// How many first names two texts share.
+/// Returns how many leading names two paths share.
 fn shared_count(own: &Led<'_>, base: &Led<'_>) -> usize {
     let mut shared = 0usize;
     for (own, base) in own.names.iter().zip(&base.names) {
@@ -395,7 +399,7 @@ fn shared_count(own: &Led<'_>, base: &Led<'_>) -> usize {
     shared
 }
 
-/// Puts a segment behind others, with a separator between.
+/// Appends a segment, after a separator unless it is the first.
 fn put_segment(text: &mut Vec<u8>, separator: u8, segment: &[u8]) -> Result<(), AllocError> {
     if !text.is_empty() {
         text.push(separator)?;
@@ -403,13 +407,14 @@ fn put_segment(text: &mut Vec<u8>, separator: u8, segment: &[u8]) -> Result<(), 
     text.extend_from_slice(segment)
 }
 
-/// Whether a text begins with a prefix.
+/// Whether a path begins with a prefix.
 fn begins_with_prefix(alloc: Global, windows: bool, text: &[u8]) -> Result<bool, AllocError> {
     let parts = parts_of(alloc, windows, text)?;
     Ok(prefix_of(parts.as_slice()).is_some())
 }
 
-/// The path that leads from a base to a text, where there is one, as what their lists say of where they lead.
+/// Returns the path that leads from a base to a path, `None` if there is none, by what their lists
+/// say of where they lead.
 fn relative(
     alloc: Global,
     windows: bool,
@@ -454,7 +459,7 @@ fn relative(
     Ok(Some(text))
 }
 
-/// Whether the path that leads from one text to another is that which their lists say.
+/// Whether the path that leads from one to another is what their lists say.
 fn is_led_alike<T: Encoding>(
     alloc: Global,
     windows: bool,
@@ -469,7 +474,8 @@ fn is_led_alike<T: Encoding>(
     }
 }
 
-/// Whether two texts are equal, hashed alike, and the first within the second, as their lists say.
+/// Whether two paths compare equal, are hashed alike if they are equal, and the first lies within
+/// the second, each as their lists say.
 fn are_compared_alike<T: Encoding>(one: &Led<'_>, two: &Led<'_>) -> bool {
     let same = are_same(one.parts.as_slice(), two.parts.as_slice());
     let (path, other) = (Path::<T>::new(one.text), Path::<T>::new(two.text));
@@ -478,7 +484,7 @@ fn are_compared_alike<T: Encoding>(one: &Led<'_>, two: &Led<'_>) -> bool {
         && path.is_within(other) == is_led_within(one, two)
 }
 
-/// Whether this is so of every pair of texts, and so does one lead to the other.
+/// Whether [`are_compared_alike`] and [`is_led_alike`] are true of every pair of paths.
 fn are_all_compared_alike<T: Encoding>(
     alloc: Global,
     windows: bool,

@@ -1,5 +1,5 @@
-//! Hostile use of `typed_path`: every short text beside a slow reading, what is left behind
-//! bases, and streams that come in pieces and fail.
+//! Hostile use of `typed_path`: every short text, compared with a slow reading; what is left after
+//! bases; and streams that come in pieces and fail.
 #![tactic(auto)]
 
 #[cfg(test)]

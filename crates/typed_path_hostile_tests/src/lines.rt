@@ -19,7 +19,8 @@ fn sink(alloc: Global, piece: usize, writes: usize) -> Drops {
     }
 }
 
-/// The replies, and how the run ended.
+/// Returns the replies to an input that comes in pieces and fails after `until` bytes, and how
+/// the run ended.
 fn answered(
     alloc: Global,
     input: &[u8],
@@ -188,7 +189,7 @@ impl Write for Full {
     }
 }
 
-/// A writer that takes one byte a call, and nothing once it took so many.
+/// A writer that takes one byte a call, and nothing once it took `left` bytes.
 #[derive(Drop)]
 struct Slow {
     taken: Vec<u8>,

@@ -1,4 +1,4 @@
-//! A slow reading of texts, by whole splits, and every short text read by it and by calls.
+//! A slow reading of paths, by whole splits, with which calls are compared on every short text.
 
 use std::alloc::{AllocError, Global};
 use std::test::Fail;
@@ -9,10 +9,10 @@ use typed_path::{
 /// The bytes that the short texts are made of.
 const BYTES: [u8; 7] = [b'/', b'\\', b'.', b'?', b':', b'a', b'C'];
 
-/// The separators of Windows texts that are not read verbatim.
+/// The separators of Windows paths that are not read verbatim.
 const BOTH: &[u8] = br"\/";
 
-/// A component, and where it begins and ends in the text.
+/// A component, and where it begins and ends in the path.
 #[derive(Clone, Copy)]
 pub struct Part<'a> {
     pub piece: Piece<'a>,
@@ -20,7 +20,7 @@ pub struct Part<'a> {
     pub end: usize,
 }
 
-/// What separates a text: `/` on Unix, and on Windows both, or `\` alone behind `\\?\`.
+/// Returns the separators of a path: `/` on Unix; on Windows both, or `\` alone after `\\?\`.
 pub fn separators(windows: bool, text: &[u8]) -> &'static [u8] {
     if !windows {
         b"/"
@@ -31,7 +31,8 @@ pub fn separators(windows: bool, text: &[u8]) -> &'static [u8] {
     }
 }
 
-/// The name up to the next separator or the end of a text, and what stands behind it.
+/// Returns the name at the front of a text, up to the next separator or the end, and what follows
+/// it.
 fn name<'a>(text: &'a [u8], separators: &[u8]) -> (&'a [u8], &'a [u8]) {
     let name = text
         .split(|byte| separators.contains(byte))
@@ -40,7 +41,8 @@ fn name<'a>(text: &'a [u8], separators: &[u8]) -> (&'a [u8], &'a [u8]) {
     (name, text.get(name.len()..).unwrap_or(b""))
 }
 
-/// A server, a separator and a share that may both be absent, and what stands behind them.
+/// Returns a server, then after a separator a share, which may be empty or absent, and what
+/// follows. `None` if the server is empty.
 fn names<'a>(text: &'a [u8], separators: &[u8]) -> Option<(&'a [u8], &'a [u8], &'a [u8])> {
     let (server, behind) = name(text, separators);
     if server.is_empty() {
@@ -55,7 +57,8 @@ fn names<'a>(text: &'a [u8], separators: &[u8]) -> Option<(&'a [u8], &'a [u8], &
     }
 }
 
-/// What stands behind two separators, a sign and a separator.
+/// Returns what follows two separators, `sign` and a separator at the front, or `None` if a text
+/// begins otherwise.
 fn behind_mark(text: &[u8], sign: u8) -> Option<&[u8]> {
     match text {
         [one, two, mark, three, behind @ ..]
@@ -65,7 +68,8 @@ fn behind_mark(text: &[u8], sign: u8) -> Option<&[u8]> {
     }
 }
 
-/// An ASCII letter with a colon, and what stands behind them.
+/// Returns the letter, in upper case, of an ASCII letter with a colon at the front, and what
+/// follows; `None` if a text begins otherwise.
 fn drive(text: &[u8]) -> Option<(u8, &[u8])> {
     match text {
         [letter, b':', behind @ ..] if letter.is_ascii_alphabetic() => {
@@ -75,7 +79,8 @@ fn drive(text: &[u8]) -> Option<(u8, &[u8])> {
     }
 }
 
-/// The prefix that stands behind a verbatim mark: the first of three cases.
+/// Returns the prefix after a verbatim mark, the first of three cases, and what follows it. `own`
+/// are the separators of the path.
 fn verbatim<'a>(text: &'a [u8], own: &[u8]) -> Option<(WindowsPrefix<'a>, &'a [u8])> {
     if let [b'U', b'N', b'C', separator, behind @ ..] = text {
         if own.contains(separator) {
@@ -94,7 +99,7 @@ fn verbatim<'a>(text: &'a [u8], own: &[u8]) -> Option<(WindowsPrefix<'a>, &'a [u
     Some((WindowsPrefix::Verbatim(name), behind))
 }
 
-/// The prefix of a Windows text, and what stands behind it: the first of six cases.
+/// Returns the prefix of a Windows path, the first of six cases, and what follows it.
 pub fn prefix(text: &[u8]) -> Option<(WindowsPrefix<'_>, &[u8])> {
     if let Some(behind) = behind_mark(text, b'?') {
         if let Some(found) = verbatim(behind, separators(true, text)) {
@@ -118,8 +123,8 @@ pub fn prefix(text: &[u8]) -> Option<(WindowsPrefix<'_>, &[u8])> {
     Some((WindowsPrefix::Disk(letter), behind))
 }
 
-/// The kind of a segment, by whether it is the first of its body and whether each `.` counts; none
-/// where it vanishes.
+/// Returns the kind of a segment, `None` if it is skipped. `first` says whether it is the first of
+/// its body, and `dots` whether each `.` is a component.
 fn kind_of(segment: &[u8], first: bool, dots: bool) -> Option<PieceKind<'static>> {
     match segment {
         [] if first => Some(PieceKind::RootDir),
@@ -131,7 +136,7 @@ fn kind_of(segment: &[u8], first: bool, dots: bool) -> Option<PieceKind<'static>
     }
 }
 
-/// The components of a text.
+/// Returns the components of a path.
 pub fn parts_of(alloc: Global, windows: bool, text: &[u8]) -> Result<Vec<Part<'_>>, AllocError> {
     let mut parts = Vec::new(alloc);
     let mut rest = text;
@@ -170,7 +175,7 @@ pub fn parts_of(alloc: Global, windows: bool, text: &[u8]) -> Result<Vec<Part<'_
     Ok(parts)
 }
 
-/// Whether two components have one kind and one text.
+/// Whether two components have one kind and the same bytes.
 fn is_same(piece: Piece<'_>, other: Piece<'_>) -> bool {
     let is_same_kind = match (piece.kind, other.kind) {
         (PieceKind::Prefix(one), PieceKind::Prefix(two)) => one == two,
@@ -183,7 +188,7 @@ fn is_same(piece: Piece<'_>, other: Piece<'_>) -> bool {
     is_same_kind && piece.text == other.text
 }
 
-/// Whether a reading from these ends gives these components, with the slice left after each step.
+/// Whether steps from these ends take these components, and leave the right slice after each step.
 fn is_read_as<T: Encoding>(
     alloc: Global,
     text: &[u8],
@@ -225,7 +230,8 @@ fn is_read_as<T: Encoding>(
     Ok(true)
 }
 
-/// Whether a text is read alike from the front alone, from the back alone, and from both in turn.
+/// Whether a path is read as [`parts_of`] reads it: from the front alone, from the back alone, and
+/// from both in turn.
 fn is_read_alike<T: Encoding>(
     alloc: Global,
     windows: bool,
@@ -248,7 +254,7 @@ fn is_read_alike<T: Encoding>(
     )
 }
 
-/// Makes a text a beginning, and behind it the text of a number among those of so many bytes.
+/// Makes `text` the bytes `begin`, and then the text of this number among those of `length` bytes.
 pub fn put_numbered(
     text: &mut Vec<u8>,
     begin: &[u8],
@@ -265,7 +271,7 @@ pub fn put_numbered(
     Ok(())
 }
 
-/// Whether this is so of all texts of so many bytes behind a beginning.
+/// Whether [`is_read_alike`] is true of the first `count` texts of `length` bytes after `begin`.
 fn are_read_alike<T: Encoding>(
     alloc: Global,
     windows: bool,

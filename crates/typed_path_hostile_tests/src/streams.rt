@@ -1,10 +1,10 @@
-//! A reader that gives its bytes in pieces and fails, and a writer that takes few and fails.
+//! A reader that gives its bytes in pieces and fails, and a writer that takes few bytes and fails.
 
 ghost use Rattle.std.specs.Prelude.{None, true, false};
 
 use typed_path::{Failed, Sink, Source};
 
-/// Gives at most `piece` bytes a read, and fails once `until` bytes were given.
+/// A reader that gives at most `piece` bytes a read, and fails once it gave `until` bytes.
 #[derive(Drop)]
 pub struct Pieces<'a> {
     pub bytes: &'a [u8],
@@ -51,7 +51,8 @@ impl Source for Pieces<'_> {
     }
 }
 
-/// Takes at most `piece` bytes a write, and fails at the write after `writes` of them.
+/// A writer that takes at most `piece` bytes a write, and fails at the write after `writes` of
+/// them.
 #[derive(Drop)]
 pub struct Drops {
     pub taken: Vec<u8>,

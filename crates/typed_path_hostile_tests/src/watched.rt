@@ -1,4 +1,4 @@
-//! Lines that are asked for one by one: the replies to those before are written by then.
+//! Lines that are read one by one: before each, the replies to all before it must be written.
 
 ghost use Rattle.std.specs.Prelude.{None, false, length};
 
@@ -6,7 +6,8 @@ use std::cell::Cell;
 use std::test::Fail;
 use typed_path::{Failed, Sink, Source, answer_lines};
 
-/// A reader that gives one line a call, and notes whether too few bytes were written by then.
+/// A reader that gives one line a call, and notes if another number of bytes than expected was
+/// written by then.
 #[derive(Drop)]
 struct Watcher<'a> {
     lines: &'a [(&'a [u8], usize)],

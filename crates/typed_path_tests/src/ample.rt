@@ -1,4 +1,4 @@
-//! Calls that ask for much memory, or for none, where it is ample: none of them gives up.
+//! Calls that need much memory, or none, with enough of it: each succeeds.
 
 use crate::conversions::{absolutizes_as, converts_as};
 use crate::owned::joins_as;
@@ -39,8 +39,8 @@ fn empty_paths(rt: HostRuntime) -> Result<(), Fail> {
     Ok(())
 }
 
-/// A base, a text that is so many times in the path that is pushed, and what the result begins
-/// with, and has as often.
+/// A base, what the pushed path is a repetition of and how often, what the result begins with, and
+/// what follows in it as often.
 type Push = (
     &'static [u8],
     &'static [u8],
@@ -49,8 +49,8 @@ type Push = (
     &'static [u8],
 );
 
-/// Whether a long path is pushed and joined as a row says, with checks and without, in room for no
-/// more than twice both.
+/// Whether a long path is pushed and joined as a row says, checked and not, with a capacity of no
+/// more than twice both paths.
 fn pushes_long<T: Encoding>(alloc: Global, row: Push) -> Result<bool, AllocError> {
     let (base, text, times, begin, wanted) = row;
     let path = repeated(alloc, b"", text, times, b"")?;
@@ -129,15 +129,16 @@ fn long_normal_texts(rt: HostRuntime) -> Result<(), Fail> {
     Ok(())
 }
 
-/// What a text begins with, what it has so many times behind it, and its end.
+/// What a text begins with, what follows and how often, and what the text ends with.
 type Text = (&'static [u8], &'static [u8], usize, &'static [u8]);
 
-/// Such a text.
+/// Returns the text of a row.
 fn written(alloc: Global, (begin, text, times, end): Text) -> Result<Vec<u8>, AllocError> {
     repeated(alloc, begin, text, times, end)
 }
 
-/// Whether a long path is made clean as a row says, in room for two bytes more than it has.
+/// Whether the clean path of a long path is as a row says, with a capacity of at most two bytes
+/// more than the path has.
 fn cleans_long<T: Encoding>(alloc: Global, path: Text, wanted: Text) -> Result<bool, AllocError> {
     let (path, wanted) = (written(alloc, path)?, written(alloc, wanted)?);
     let clean = Path::<T>::new(path.as_slice()).clean(alloc)?;
@@ -184,7 +185,8 @@ fn long_clean_texts(rt: HostRuntime) -> Result<(), Fail> {
     Ok(())
 }
 
-/// Whether a path leads from a base to another as a row says, in room for two bytes more than it or the other has.
+/// Whether a path leads from a base to another as a row says, with a capacity of at most two bytes
+/// more than the longer of the path and the other.
 fn leads_long<T: Encoding>(
     alloc: Global,
     (base, path, wanted): (Text, Text, Text),
@@ -245,7 +247,8 @@ fn long_relative_paths(rt: HostRuntime) -> Result<(), Fail> {
 #[test]
 fn long_conversions(rt: HostRuntime) -> Result<(), Fail> {
     let alloc = rt.alloc();
-    // What the path begins with, and has so many times; the same of the result; whether it is refused.
+    // What the path begins with, what follows and how often; both of the result; whether it is
+    // refused.
     const ROWS: &[(&[u8], &[u8], usize, &[u8], &[u8], bool)] = &[
         (b"", b"/name", 2_000, b"", br"\name", false),
         (b"a", b"/name", 2_000, b"a", br"\name", false),

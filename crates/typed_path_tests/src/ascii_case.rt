@@ -1,4 +1,4 @@
-//! Paths in lower case where memory is ample, and compared by these.
+//! Paths in lower case with enough memory, and comparisons in lower case.
 
 use crate::long::LENGTHS;
 use crate::support::repeated;
@@ -6,7 +6,8 @@ use std::alloc::{AllocError, Global};
 use std::test::Fail;
 use typed_path::{Encoding, Path, UnixEncoding, UnixPath, WindowsEncoding};
 
-/// Whether each path of a table has the text beside it in lower case, and is equal to that so.
+/// Whether each path of a table is as its row says in lower case, and is equal to that in lower
+/// case and begins with it.
 fn are_lowered_as<T: Encoding>(alloc: Global, rows: &[(&[u8], &[u8])]) -> Result<bool, AllocError> {
     for &(path, wanted) in rows {
         let lowered = Path::<T>::new(path).to_ascii_lowercase(alloc)?;

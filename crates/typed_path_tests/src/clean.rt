@@ -1,10 +1,10 @@
-//! Paths made clean: what other libraries make of them.
+//! Clean paths: what other libraries make of the same paths.
 
 use std::alloc::{AllocError, Global};
 use std::test::Fail;
 use typed_path::{Encoding, Path, UnixEncoding, WindowsEncoding};
 
-/// Whether each path of a table has the clean text beside it.
+/// Whether each path of a table has the clean path in its row.
 fn are_clean_as<T: Encoding>(alloc: Global, rows: &[(&[u8], &[u8])]) -> Result<bool, AllocError> {
     for &(path, wanted) in rows {
         let clean = Path::<T>::new(path).clean(alloc)?;

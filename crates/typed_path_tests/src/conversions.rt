@@ -1,4 +1,4 @@
-//! Paths in other encodings, and made absolute, with ample memory: rows of known answers.
+//! Paths in other encodings, and made absolute, with enough memory: rows of known answers.
 
 use std::alloc::{AllocError, Global};
 use std::test::Fail;
@@ -8,10 +8,10 @@ use typed_path::{
     PlatformPathBuf, UnixEncoding, UnixPath, WindowsEncoding, WindowsPath,
 };
 
-/// A path, what it becomes, and what the checked conversion answers.
+/// A path, what it becomes, and what the checked conversion returns.
 pub type Row<'a> = (&'a [u8], &'a [u8], Result<&'a [u8], CheckedPathError>);
 
-/// Whether a checked answer is as wanted.
+/// Whether a checked conversion returned what is wanted. No row wants a failed allocation.
 fn is_as<U: Encoding>(
     answer: Result<PathBuf<U>, PathError>,
     wanted: Result<&[u8], CheckedPathError>,
@@ -120,12 +120,12 @@ fn named_encodings(rt: HostRuntime) -> Result<(), Fail> {
     Ok(())
 }
 
-/// Whether a piece has the text.
+/// Whether there is a piece, and it has these bytes.
 fn has_text(piece: Option<Piece<'_>>, text: &[u8]) -> bool {
     piece.is_some_and(|piece| piece.text == text)
 }
 
-/// Whether a path is read as on Unix: parted by `/` alone, and without a prefix.
+/// Whether a path is read as on Unix: `/` alone separates, and there is no prefix.
 fn is_read_as_on_unix<T: Encoding>(path: Path<'_, T>) -> bool {
     let mut components = path.components();
     has_text(components.next(), br"C:\a")
@@ -150,7 +150,8 @@ fn names_of_the_machine(rt: HostRuntime) -> Result<(), Fail> {
     Ok(())
 }
 
-/// Whether a path becomes this absolute text from a directory, or is refused where there is none.
+/// Whether a path is made absolute from `directory` as `wanted`, or is ambiguous if nothing is
+/// wanted.
 pub fn absolutizes_as<T: Encoding>(
     alloc: Global,
     directory: &[u8],
@@ -163,7 +164,7 @@ pub fn absolutizes_as<T: Encoding>(
     )
 }
 
-/// Whether an absolute path has this text, or is refused where there is none.
+/// Whether a path was made absolute as `wanted`, or is ambiguous if nothing is wanted.
 fn is_absolute_as<T: Encoding>(
     answer: Result<PathBuf<T>, AbsolutizeError>,
     wanted: Option<&[u8]>,

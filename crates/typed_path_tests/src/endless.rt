@@ -1,4 +1,5 @@
-//! Texts of a megabyte, read and normalized as paths of bytes, and names of many lengths in each call that grows.
+//! Texts of a megabyte, read and normalized as paths of bytes, and names of many lengths in each
+//! call that grows a path.
 
 use crate::long::{Long, long_texts};
 use crate::{each_long_text, each_name, grows, has_number};
@@ -6,7 +7,7 @@ use std::alloc::{AllocError, Global};
 use std::test::Fail;
 use typed_path::{Encoding, Path, PathBuf, UnixEncoding, WindowsEncoding};
 
-/// Whether a long text has its components, and its normal text.
+/// Whether a long text has its components, and its normal path.
 fn is_read<T: Encoding>(alloc: Global, long: &Long) -> Result<bool, AllocError> {
     let (text, normal, count) = long_texts(alloc, long)?;
     let path = Path::<T>::new(text.as_slice());
@@ -21,7 +22,7 @@ fn megabytes(rt: HostRuntime) -> Result<(), Fail> {
     Ok(())
 }
 
-/// Whether each call that grows gives what it is to give of one name.
+/// Whether each call that grows a path returns what it should for one name.
 fn is_grown<T: Encoding>(alloc: Global, name: &[u8]) -> Result<bool, AllocError> {
     let (empty, lent) = (Path::<T>::new(b""), Path::<T>::new(name));
     Ok(

@@ -7,7 +7,8 @@ use typed_path::{
     UnixComponents, UnixEncoding, UnixPath, read_ends,
 };
 
-/// A line for each end that is named: the text that it gives, or `none`, and the slice left then.
+/// Returns a line for each end that is read: the component that it gives, or `none`, and the slice
+/// left then.
 fn taken(alloc: Global, path: &[u8], ends: &[End]) -> Result<Vec<u8>, AllocError> {
     let mut components = UnixPath::new(path).components();
     let mut lines = Vec::new(alloc);

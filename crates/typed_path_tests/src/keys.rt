@@ -1,4 +1,4 @@
-//! Paths as keys of maps, what they feed to a hasher, and their order: rows of known answers.
+//! Paths as keys of maps, what they feed a hasher, and their order: rows of known answers.
 
 use crate::support::{Recorder, recorded};
 use std::alloc::{AllocError, Global};
@@ -11,7 +11,7 @@ use typed_path::{
     WindowsEncoding, WindowsPath, WindowsPathBuf,
 };
 
-/// What it makes of texts in one write each, and a number behind them.
+/// Returns what a recorder makes of texts, each fed by one write, and a number after them.
 fn recorded_words(texts: &[&[u8]], count: usize) -> u64 {
     let mut state = Recorder::new();
     for text in texts {
@@ -72,7 +72,7 @@ fn equal_windows_paths(rt: HostRuntime) -> Result<(), Fail> {
     Ok(())
 }
 
-/// Whether each path of a list comes before all that stand behind it, lent and owned.
+/// Whether each path of a list is less than all that follow it, borrowed and owned.
 fn are_in_order<T: Encoding>(rt: HostRuntime, paths: &[&[u8]]) -> Result<bool, Fail> {
     for i in 0..paths.len() {
         for j in 0..paths.len() {
@@ -170,14 +170,15 @@ fn lent_keys_of_sets(rt: HostRuntime) -> Result<(), Fail> {
     Ok(())
 }
 
-/// What std's hasher makes of a value.
+/// Returns what std's hasher makes of a value.
 fn hashed<K: Hash>(key: &K) -> u64 {
     let mut state = DefaultHasher::new();
     key.hash(&mut state);
     state.finish()
 }
 
-/// Thirteen letters with separators between some of them, which the bits of a number choose.
+/// Returns thirteen letters, with separators between some of them, which the bits of a number
+/// choose.
 fn spelled(alloc: Global, mut bits: u32) -> Result<Vec<u8>, AllocError> {
     let mut path = Vec::new(alloc);
     for _ in 0..12 {

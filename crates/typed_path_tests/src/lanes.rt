@@ -1,13 +1,13 @@
-//! The searches for separators, at every length and every place, for both encodings.
+//! The searches for separators, at every length and every index, for both encodings.
 
 use std::test::Fail;
 use typed_path::{Encoding, Path, UnixEncoding, UnixPath, WindowsEncoding};
 
-/// The longest text that is looked at: three whole blocks and a rest.
+/// The length of the longest text that is searched: three whole blocks and a rest.
 const LONGEST: usize = 100;
 
-/// The text of the first component of a text without dots, found byte by byte. The first of the
-/// separators is how a root is written.
+/// Returns the text of the first component of a text without dots, found byte by byte. The first of
+/// the separators is how a root is written.
 fn first_text<'a>(text: &'a [u8], separators: &'a [u8; 2]) -> &'a [u8] {
     for (place, byte) in text.iter().enumerate() {
         if *byte == separators[0] || *byte == separators[1] {
@@ -21,7 +21,7 @@ fn first_text<'a>(text: &'a [u8], separators: &'a [u8; 2]) -> &'a [u8] {
     text
 }
 
-/// The text of its last component.
+/// Returns the text of the last component of a text without dots, found byte by byte.
 fn last_text<'a>(text: &'a [u8], separators: &'a [u8; 2]) -> &'a [u8] {
     let mut begin = 0;
     let mut end = 0;
@@ -50,8 +50,8 @@ fn ends_are_found<T: Encoding>(text: &[u8], separators: &[u8; 2]) -> bool {
     first == first_text(text, separators) && last == last_text(text, separators)
 }
 
-/// Whether this is so of every text of some length that is separators alone, or has one at some
-/// place and perhaps another elsewhere, or none.
+/// Whether [`ends_are_found`] is true of texts of this length, at most [`LONGEST`]: of separators
+/// alone, and of letters with a separator at each index or none, and perhaps another in the middle.
 fn are_found_at_each_place<T: Encoding>(length: usize, separators: &[u8; 2]) -> bool {
     let length = length.min(LONGEST);
     for place in 0..=length {

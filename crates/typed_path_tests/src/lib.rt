@@ -1,5 +1,5 @@
-//! What no clause of `typed_path` says of paths of bytes: rows of known answers, calls where memory is
-//! ample, and printed texts; and what the other crates of tests share with these.
+//! What no clause of `typed_path` says of paths of bytes: rows of known answers, calls with enough
+//! memory, and printed paths; and what the other crates of tests share with these.
 #![tactic(auto)]
 
 #[cfg(test)]

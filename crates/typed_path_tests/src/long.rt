@@ -1,10 +1,11 @@
-//! Texts of a megabyte, which each family reads and normalizes in a crate of tests: each call goes through them once.
+//! Texts of a megabyte, which a crate of tests for each family reads and normalizes, each call
+//! once.
 
 use crate::support::repeated;
 use std::alloc::{AllocError, Global};
 
-/// What a text begins with, and has so many times behind it; how many components it has; and what its
-/// normal text begins with, and has as many times behind it.
+/// What a text begins with, what follows and how often; how many components it has; and what its
+/// normal path begins with, and what follows in it as often.
 pub type Long = (
     &'static [u8],
     &'static [u8],
@@ -45,14 +46,14 @@ pub const LONG_WINDOWS_TEXTS: &[Long] = &[
     (br"\\?\", br"\\?\", 262_144, 262_146, br"\\?\", br"\?"),
 ];
 
-/// How long names are that each call which grows is asked for: on both sides of each length at which a look takes
-/// other blocks or gives up, and of what two bytes can count.
+/// The lengths of names with which each call that grows a path is made: on both sides of each
+/// length at which a search takes other blocks or gives up, and of what two bytes can count.
 pub const LENGTHS: &[usize] = &[
     1, 7, 8, 9, 15, 16, 17, 31, 32, 33, 127, 128, 129, 255, 256, 257, 1_023, 1_024, 1_025, 4_095,
     4_096, 4_097, 65_535, 65_536, 100_000,
 ];
 
-/// A long text, its normal text, and how many components it has.
+/// Returns a long text, its normal path, and how many components it has.
 pub fn long_texts(alloc: Global, long: &Long) -> Result<(Vec<u8>, Vec<u8>, usize), AllocError> {
     let &(begin, part, times, count, normal_begin, normal_part) = long;
     let text = repeated(alloc, begin, part, times, b"")?;
@@ -60,7 +61,7 @@ pub fn long_texts(alloc: Global, long: &Long) -> Result<(Vec<u8>, Vec<u8>, usize
     Ok((text, normal, count))
 }
 
-/// Asks whether each long text is read as it is to be, on either system.
+/// Asserts of each long text that it is read as it should be, on either system.
 #[macro_export]
 macro_rules! each_long_text {
     ($rt:expr, $long:ident => $unix:expr, $windows:expr) => {
@@ -74,7 +75,7 @@ macro_rules! each_long_text {
     };
 }
 
-/// Asks whether a name of each length is grown as it is to be, on either system.
+/// Asserts of a name of each length that paths grow by it as they should, on either system.
 #[macro_export]
 macro_rules! each_name {
     ($rt:expr, $name:ident => $unix:expr, $windows:expr) => {
@@ -87,8 +88,9 @@ macro_rules! each_name {
     };
 }
 
-/// Whether each call that grows gives what it is to give of one long name: as a lent path, as what is pushed, and as
-/// what a name is given as. It is told an owned path and a lent one that are empty, too, and nothing as what is pushed.
+/// Whether each call that grows a path returns what it should for one long name: `$lent` is a path
+/// of that name, `$pushed` the name as what is pushed, and `$name` the name. `$owned` and `$empty`
+/// are empty paths, and `$nothing` is the empty path as what is pushed.
 #[macro_export]
 macro_rules! grows {
     ($alloc:expr, $owned:expr, $empty:expr, $lent:expr, $pushed:expr, $nothing:expr, $name:expr, $path:ident => $bytes:expr) => {{
@@ -126,7 +128,7 @@ macro_rules! grows {
     }};
 }
 
-/// Whether a path has so many components, read from either end.
+/// Whether a path has `$count` components, read from either end.
 #[macro_export]
 macro_rules! has_number {
     ($path:expr, $count:expr) => {{
@@ -141,7 +143,7 @@ macro_rules! has_number {
     }};
 }
 
-/// Whether a path has so many components, read from both ends until they meet.
+/// Whether a path has `$count` components, read from both ends until they meet.
 #[macro_export]
 macro_rules! meets_behind {
     ($path:expr, $count:expr) => {{

@@ -1,4 +1,4 @@
-//! Owned paths, with ample memory.
+//! Owned paths, with enough memory.
 
 use std::alloc::{AllocError, Global};
 use std::test::Fail;

@@ -1,4 +1,4 @@
-//! Calls of paths with ample memory, and printed texts.
+//! Calls of paths with enough memory, and printed paths.
 
 use std::alloc::{AllocError, Global};
 use std::test::Fail;
@@ -7,7 +7,7 @@ use typed_path::{
     UnixPathBuf,
 };
 
-/// Whether a path has the normal text.
+/// Whether a path has the normal path `wanted`.
 pub fn normalizes_as<T: Encoding>(
     alloc: Global,
     path: &[u8],

@@ -1,4 +1,4 @@
-//! Portable paths: names that other tools refuse, joins with ample memory, and printed errors.
+//! Portable paths: names that other tools refuse, joins with enough memory, and printed errors.
 
 use crate::long::LENGTHS;
 use crate::support::repeated;

@@ -1,4 +1,4 @@
-//! Single prefixes of Windows: read from texts, asked and compared.
+//! Single prefixes of Windows: read from bytes, asked and compared.
 
 use typed_path::{Component, ParseError, WindowsComponent, WindowsPrefix, WindowsPrefixComponent};
 

@@ -4,7 +4,7 @@ use std::alloc::{AllocError, Global};
 use std::test::Fail;
 use typed_path::{Encoding, Path, UnixEncoding, WindowsEncoding};
 
-/// Whether the path that leads from a base to a path is the wanted one, where `-` stands for none.
+/// Whether the path that leads from a base to a path is `wanted`; `-` stands for none.
 fn leads_as<T: Encoding>(
     alloc: Global,
     base: &[u8],
@@ -18,8 +18,8 @@ fn leads_as<T: Encoding>(
     }
 }
 
-/// What Go's `filepath.Rel` answers on Unix from each base to each of these paths, without the `/.` that it leaves
-/// at the end of some.
+/// What Go's `filepath.Rel` returns on Unix from each base to each of these paths, without the `/.`
+/// that it leaves at the end of some.
 #[test]
 fn unix_paths(rt: HostRuntime) -> Result<(), Fail> {
     const PATHS: [&[u8]; 13] = [
@@ -59,7 +59,7 @@ fn unix_paths(rt: HostRuntime) -> Result<(), Fail> {
     Ok(())
 }
 
-/// What Python's `ntpath.relpath` answers.
+/// What Python's `ntpath.relpath` returns.
 #[test]
 fn windows_paths(rt: HostRuntime) -> Result<(), Fail> {
     const ROWS: &[(&[u8], &[u8], &[u8])] = &[

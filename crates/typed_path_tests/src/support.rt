@@ -1,12 +1,12 @@
-//! What tests share: a text made of many, and a hasher that tells its words apart.
+//! What tests share: texts with repetitions, and a hasher that tells its words apart.
 
 use std::alloc::{AllocError, Global};
 use std::hash::{DefaultHasher, Hash, Hasher};
 
-/// How many times a text is put at once.
+/// How many repetitions are appended at once.
 const BLOCK: usize = 1_024;
 
-/// A beginning, a text behind it so many times, and an end.
+/// Returns `begin`, `text` as often as `times` says, and `end`.
 pub fn repeated(
     alloc: Global,
     begin: &[u8],
@@ -26,7 +26,7 @@ pub fn repeated(
     Ok(bytes)
 }
 
-/// A hasher that tells its words apart: where one ends, it takes the length of it in.
+/// A hasher that tells its words apart: after each word it is fed its length.
 #[derive(Drop)]
 pub struct Recorder(DefaultHasher);
 
@@ -55,7 +55,7 @@ impl Hasher for Recorder {
     }
 }
 
-/// What a recorder makes of a key.
+/// Returns what a recorder makes of a key.
 pub fn recorded<K: Hash>(key: &K) -> u64 {
     let mut state = Recorder::new();
     key.hash(&mut state);

@@ -1,5 +1,5 @@
-//! Pushes and conversions onto bases of Windows that are read verbatim, or get a verbatim prefix by the push: rows
-//! of known answers.
+//! Pushes and conversions onto Windows bases that are read verbatim, or get a verbatim prefix by
+//! the push: rows of known answers.
 
 use crate::conversions::converts_as;
 use std::alloc::{AllocError, Global};
@@ -8,8 +8,9 @@ use typed_path::{
     CheckedPathError, Encoding, UnixEncoding, WindowsEncoding, WindowsPath, WindowsPathBuf,
 };
 
-/// Whether two paths make what a row says of a base, pushed one by one and in one call. A row is the
-/// base, a path, the base with it, the other path, and the base with both, parted by blanks.
+/// Whether two paths make what a row says of a base, pushed one by one and in one call. A row has
+/// the base, a path, the base with it, the other path, and the base with both, with a space between
+/// two fields.
 fn pushes_as(alloc: Global, row: &[u8]) -> Result<bool, AllocError> {
     let mut fields = row.split(|byte| *byte == b' ');
     let base = fields.next().unwrap_or(b"");

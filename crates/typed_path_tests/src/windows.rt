@@ -1,4 +1,4 @@
-//! Components of Windows texts, read by calls: rows of known answers.
+//! Components of Windows paths, as calls read them: rows of known answers.
 
 use std::str;
 use typed_path::{
@@ -6,13 +6,13 @@ use typed_path::{
     WindowsComponents, WindowsEncoding, WindowsPath, WindowsPrefix, WindowsPrefixComponent,
 };
 
-/// The components of a text.
+/// Returns the components of a path.
 fn components(text: &[u8]) -> WindowsComponents<'_> {
     WindowsComponents::new(WindowsPath::new(text))
 }
 
-/// Whether components, which are made twice, have these texts from the front and from the back, where
-/// a first one may be left out.
+/// Whether components, which `$components` makes anew for each end, have these texts from the front
+/// and from the back. With `$has_prefix`, a first one is not compared.
 macro_rules! have_texts {
     ($components:expr, $has_prefix:expr, $texts:expr, $($bytes:ident).+) => {{
         let mut forward = $components;
@@ -38,12 +38,12 @@ macro_rules! have_texts {
     }};
 }
 
-/// Whether a text has these components, behind its prefix where it has one.
+/// Whether a path has these components after its prefix, if any.
 fn have_texts(text: &[u8], has_prefix: bool, texts: &[&[u8]]) -> bool {
     have_texts!(components(text), has_prefix, texts, as_bytes)
 }
 
-/// The same, where a path of texts reads it.
+/// Whether a path of text has these components after its prefix, if any.
 fn texts_have_texts(text: &str, has_prefix: bool, texts: &[&[u8]]) -> bool {
     have_texts!(
         Utf8WindowsPath::new(text).components(),
@@ -53,7 +53,7 @@ fn texts_have_texts(text: &str, has_prefix: bool, texts: &[&[u8]]) -> bool {
     )
 }
 
-/// The same, where a path of either dialect reads it.
+/// Whether a path of either dialect has these components after its prefix, if any.
 fn typed_have_texts(text: &[u8], has_prefix: bool, texts: &[&[u8]]) -> bool {
     have_texts!(
         TypedPath::windows(text).components(),
@@ -63,7 +63,7 @@ fn typed_have_texts(text: &[u8], has_prefix: bool, texts: &[&[u8]]) -> bool {
     )
 }
 
-/// The same, where a path of texts of either dialect reads it.
+/// Whether a path of text of either dialect has these components after its prefix, if any.
 fn typed_texts_have_texts(text: &str, has_prefix: bool, texts: &[&[u8]]) -> bool {
     have_texts!(
         Utf8TypedPath::windows(text).components(),
@@ -255,7 +255,8 @@ fn share_cut_after_each_byte(rt: HostRuntime) {
 
 #[test]
 fn questions(rt: HostRuntime) {
-    // Absolute, rooted, with a root written, with one implied; and which of the kinds the prefix is.
+    // Absolute, rooted, with a root written, with one implied; and which of the kinds the prefix
+    // is.
     const ROWS: &[(&[u8], [bool; 4], usize)] = &[
         (b"", [false, false, false, false], 6),
         (b"a", [false, false, false, false], 6),

@@ -1,4 +1,4 @@
-//! Whole paths of Windows, with ample memory: rows of known answers.
+//! Whole Windows paths, with enough memory: rows of known answers.
 
 use crate::owned::joins_as;
 use crate::paths::normalizes_as;

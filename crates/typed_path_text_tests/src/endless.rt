@@ -1,4 +1,5 @@
-//! Texts of a megabyte, read and normalized as paths of text, and names of many lengths in each call that grows.
+//! Texts of a megabyte, read and normalized as paths of text, and names of many lengths in each
+//! call that grows a path.
 
 use std::alloc::{AllocError, Global};
 use std::str;
@@ -6,7 +7,7 @@ use std::test::Fail;
 use typed_path::{Utf8Encoding, Utf8Path, Utf8PathBuf, Utf8UnixEncoding, Utf8WindowsEncoding};
 use typed_path_tests::{Long, each_long_text, each_name, grows, long_texts, meets_behind};
 
-/// Whether a long text has its components, and its normal text.
+/// Whether a long text has its components, and its normal path.
 fn is_read<T: Utf8Encoding>(alloc: Global, long: &Long) -> Result<bool, AllocError> {
     let (text, normal, count) = long_texts(alloc, long)?;
     let path = Utf8Path::<T>::new(str::from_utf8(text.as_slice()).unwrap_or(""));
@@ -21,7 +22,7 @@ fn megabytes(rt: HostRuntime) -> Result<(), Fail> {
     Ok(())
 }
 
-/// Whether each call that grows gives what it is to give of one name.
+/// Whether each call that grows a path returns what it should for one name.
 fn is_grown<T: Utf8Encoding>(alloc: Global, name: &str) -> Result<bool, AllocError> {
     let (empty, lent) = (Utf8Path::<T>::new(""), Utf8Path::<T>::new(name));
     Ok(

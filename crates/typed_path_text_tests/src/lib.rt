@@ -1,4 +1,4 @@
-//! What no clause of `typed_path` says of paths of text: rows of known answers, and printed texts.
+//! What no clause of `typed_path` says of paths of text: rows of known answers, and printed paths.
 #![tactic(auto)]
 
 #[cfg(test)]

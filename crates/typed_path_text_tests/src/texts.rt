@@ -1,4 +1,4 @@
-//! Paths of text: rows of known answers, what is printed of them, and calls where memory is ample.
+//! Paths of text: rows of known answers, what is printed of them, and calls with enough memory.
 
 use std::alloc::{AllocError, Global};
 use std::test::Fail;
@@ -12,7 +12,7 @@ use typed_path::{
 };
 use typed_path_tests::repeated;
 
-/// Whether a call made this text.
+/// Whether a call made the path `wanted`.
 fn is_made<T: Utf8Encoding>(made: Result<Utf8PathBuf<T>, AllocError>, wanted: &str) -> bool {
     match made {
         Ok(path) => path.as_path().as_str() == wanted,
@@ -20,7 +20,8 @@ fn is_made<T: Utf8Encoding>(made: Result<Utf8PathBuf<T>, AllocError>, wanted: &s
     }
 }
 
-/// Whether a call that may refuse a path made this text, or was refused for this.
+/// Whether a call that may refuse a path made the path that is wanted, or refused it for the fault
+/// that is wanted.
 fn answers<T: Utf8Encoding>(
     made: Result<Utf8PathBuf<T>, PathError>,
     wanted: Result<&str, CheckedPathError>,
@@ -32,7 +33,7 @@ fn answers<T: Utf8Encoding>(
     }
 }
 
-/// Whether a path is made absolute as this text, or is ambiguous where none is wanted.
+/// Whether a path is made absolute as `wanted`, or is ambiguous if nothing is wanted.
 fn is_absolutized<T: Utf8Encoding>(alloc: Global, path: &str, wanted: Option<&str>) -> bool {
     let directory = Utf8PlatformPath::new("/home/u");
     match (

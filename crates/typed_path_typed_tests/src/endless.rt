@@ -1,5 +1,5 @@
-//! Texts of a megabyte, read and normalized as paths of either dialect, of bytes and of text; and names of many lengths, of bytes and of
-//! text, in each call that grows and as JSON values.
+//! Texts of a megabyte, read and normalized as paths of either dialect, of bytes and of text; and
+//! names of many lengths, of bytes and of text, in each call that grows a path and as JSON values.
 
 use serde_json::Value;
 use std::alloc::{AllocError, Global};
@@ -25,7 +25,7 @@ fn megabytes(rt: HostRuntime) -> Result<(), Fail> {
     Ok(())
 }
 
-/// The same of it as a text.
+/// Whether a long path of text has its components and its normal path.
 fn is_read_as_text(alloc: Global, kind: PathType, long: &Long) -> Result<bool, AllocError> {
     let (bytes, normal, count) = long_texts(alloc, long)?;
     let text = Utf8TypedPath::new(str::from_utf8(bytes.as_slice()).unwrap_or(""), kind);
@@ -66,7 +66,7 @@ fn is_kept(alloc: Global, kind: PathType, name: &str) -> Result<bool, ValueError
     Ok(true)
 }
 
-/// Whether each call of a path that grows gives what it is to give of one name.
+/// Whether each call that grows a path of bytes returns what it should for one name.
 fn is_grown(alloc: Global, kind: PathType, name: &str) -> Result<bool, AllocError> {
     let bytes = name.as_bytes();
     let (empty, lent) = (TypedPath::new(b"", kind), TypedPath::new(bytes, kind));
@@ -75,7 +75,7 @@ fn is_grown(alloc: Global, kind: PathType, name: &str) -> Result<bool, AllocErro
     )
 }
 
-/// The same of a path of text.
+/// Whether each call that grows a path of text returns what it should for one name.
 fn is_grown_as_text(alloc: Global, kind: PathType, name: &str) -> Result<bool, AllocError> {
     let (empty, lent) = (Utf8TypedPath::new("", kind), Utf8TypedPath::new(name, kind));
     Ok(
@@ -83,7 +83,7 @@ fn is_grown_as_text(alloc: Global, kind: PathType, name: &str) -> Result<bool, A
     )
 }
 
-/// Whether both do, and JSON values keep the name.
+/// Whether [`is_grown`], [`is_grown_as_text`] and [`is_kept`] are true of one name.
 fn is_grown_and_kept(alloc: Global, kind: PathType, name: &str) -> Result<bool, AllocError> {
     Ok(
         is_grown(alloc, kind, name)?

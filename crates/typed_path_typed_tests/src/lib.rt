@@ -1,5 +1,5 @@
-//! What no clause of `typed_path` says of paths whose dialect is chosen when the program runs, and of JSON
-//! values: rows of known answers, and printed texts.
+//! What no clause of `typed_path` says of paths whose dialect is chosen at run time, and of JSON
+//! values: rows of known answers, and printed paths.
 #![tactic(auto)]
 
 #[cfg(test)]

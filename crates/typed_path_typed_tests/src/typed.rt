@@ -1,5 +1,5 @@
-//! Paths whose dialect is chosen when the program runs: rows of known answers, and what each value feeds
-//! to a hasher.
+//! Paths whose dialect is chosen at run time: rows of known answers, and what each value feeds a
+//! hasher.
 
 use std::cmp::Ordering;
 use std::test::Fail;

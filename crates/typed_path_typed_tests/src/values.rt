@@ -8,7 +8,7 @@ use typed_path::{
     Utf8UnixPathBuf, Utf8WindowsPath, ValueError, WindowsPath, WindowsPathBuf,
 };
 
-/// Whether a value was made that is written as this text.
+/// Whether a value was made that is written as `wanted`.
 fn is_written(
     alloc: Global,
     made: Result<Value, ValueError>,
