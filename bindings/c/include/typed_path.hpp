@@ -1,14 +1,16 @@
-// Paths of Unix and of Windows for C++17 and later, over the calls of typed_path.h, which says of each what it answers.
+// Paths of Unix and of Windows for C++17 and later, over the calls of typed_path.h, which says of each what it
+// returns.
 //
 // A path is a view of the caller's text, as a std::string_view is, and copies nothing:
 //
 //     typed_path::unix_path folder("/srv");
-//     std::string target = folder.join_checked("a/b").value();          // throws typed_path::error where it is refused
-//     if (auto made = folder.join_checked(name)) use(*made);            // or asks; made.status() names the refusal
+//     std::string target = folder.join_checked("a/b").value();          // throws typed_path::error if it is refused
+//     if (auto made = folder.join_checked(name)) use(*made);            // or asks; made.status() says why it is refused
 //
-// Texts come in as what a std::string_view can be made of. A path that is made is a std::string, a part of a path a
-// std::optional<std::string_view> into its text. Where memory is refused, std::bad_alloc is thrown; without exceptions
-// the program ends there, and where `value` would throw. Parts, components, questions and comparisons are noexcept.
+// Paths and names come in as what a std::string_view can be made of. A path that is made is a std::string, a part
+// of a path a std::optional<std::string_view> into its text. If an allocation fails, std::bad_alloc is thrown.
+// Without exceptions the program ends there, and where `value` would throw. Parts, components, questions and
+// comparisons are noexcept.
 #ifndef TYPED_PATH_HPP
 #define TYPED_PATH_HPP
 
@@ -43,7 +45,7 @@
 #include <ranges>
 #endif
 
-// The bounds of typed_path.h are of C, and so are their casts.
+// The bounds of typed_path.h are C, and so are their casts.
 #if defined(__GNUC__)
 #pragma GCC diagnostic push
 #pragma GCC diagnostic ignored "-Wold-style-cast"
@@ -51,10 +53,10 @@
 
 namespace typed_path {
 
-/// How a text is read. The names have a capital, since compilers define `unix` as a macro.
+/// How a path is read. The names have a capital, since compilers define `unix` as a macro.
 enum class dialect : std::uint32_t { Unix = TYPED_PATH_UNIX, Windows = TYPED_PATH_WINDOWS };
 
-/// What a call was refused for; typed_path.h says of each when.
+/// Why a call failed, or refused a path; typed_path.h says of each status when.
 enum class status : std::uint32_t {
     done = TYPED_PATH_STATUS_DONE,
     invalid_filename = TYPED_PATH_STATUS_INVALID_FILENAME,
@@ -76,7 +78,7 @@ enum class status : std::uint32_t {
     not_text = TYPED_PATH_STATUS_NOT_TEXT,
 };
 
-/// What a component is.
+/// The kind of a component.
 enum class kind : std::uint32_t {
     root = TYPED_PATH_KIND_ROOT,
     current = TYPED_PATH_KIND_CURRENT,
@@ -92,7 +94,7 @@ enum class kind : std::uint32_t {
 
 namespace detail {
 
-// Ends by an exception, or without exceptions at once.
+// Throws an exception, or without exceptions ends the program.
 template <class Thrown>
 [[noreturn]] void thrown(const Thrown &it) {
 #if defined(__cpp_exceptions)
@@ -103,7 +105,8 @@ template <class Thrown>
 #endif
 }
 
-// Hands `put` a buffer of `bound` bytes: `out` is what that puts there, or empty if it is refused.
+// Lets `put` write into a buffer of `bound` bytes: `out` is what that puts there, or empty if it refuses. Throws
+// if an allocation failed.
 template <class Put>
 status put_in(std::string &out, std::size_t bound, Put put) {
     std::uint32_t told = TYPED_PATH_STATUS_DONE;
@@ -123,7 +126,7 @@ status put_in(std::string &out, std::size_t bound, Put put) {
     return static_cast<status>(told);
 }
 
-// The same of what is refused for want of memory alone.
+// Returns what `put` puts, which fails only if an allocation does.
 template <class Put>
 std::string made_by(std::size_t bound, Put put) {
     std::string out;
@@ -133,63 +136,64 @@ std::string made_by(std::size_t bound, Put put) {
 
 }  // namespace detail
 
-/// What a status says, in English.
+/// Returns what a status says, in English.
 inline std::string to_string(status of) {
     return detail::made_by(TYPED_PATH_TEXT_BOUND, [=](char *out, std::size_t size, std::size_t *len) {
         return typed_path_status_text(static_cast<std::uint32_t>(of), out, size, len);
     });
 }
 
-/// What a kind of component is called, in English.
+/// Returns what a kind of component is called, in English.
 inline std::string to_string(kind of) {
     return detail::made_by(TYPED_PATH_TEXT_BOUND, [=](char *out, std::size_t size, std::size_t *len) {
         return typed_path_kind_text(static_cast<std::uint32_t>(of), out, size, len);
     });
 }
 
-/// Whether this processor can run the library; ask once, before the first call.
+/// Whether this processor can run the library; call it once, before the others.
 inline bool runs_here() noexcept { return typed_path_runs_here(); }
 
-/// The dialect that a text looks like: Windows if it begins with `\` or a prefix, else Unix.
+/// Returns the dialect that a path looks like: Windows if it begins with `\` or with a prefix of Windows, else
+/// Unix.
 inline dialect derive(std::string_view text) noexcept {
     return static_cast<dialect>(typed_path_derive(text.data(), text.size()));
 }
 
-/// What `value` of a refused result throws.
+/// The exception that `value` of a refused result throws.
 class error : public std::runtime_error {
 public:
     explicit error(typed_path::status of) : std::runtime_error(to_string(of)), status_(of) {}
-    /// What was refused.
+    /// Why the call was refused.
     [[nodiscard]] typed_path::status status() const noexcept { return status_; }
 
 private:
     typed_path::status status_;
 };
 
-/// What a call made, or what it was refused for.
+/// What a call made, or why it was refused.
 template <class T>
 class [[nodiscard]] result {
 public:
     result(T made) : made_(std::move(made)), status_(typed_path::status::done) {}
-    /// A refusal, which is not `done`.
+    /// A refusal, whose status is not `done`.
     result(typed_path::status refused) noexcept : made_(), status_(refused) {}
 
-    /// Whether it was made.
+    /// Whether something was made.
     [[nodiscard]] bool has_value() const noexcept { return made_.has_value(); }
     explicit operator bool() const noexcept { return has_value(); }
-    /// What it was refused for, or `done`.
+    /// Why nothing was made, or `done`.
     [[nodiscard]] typed_path::status status() const noexcept { return status_; }
-    /// What was made; throws an `error` where it was refused.
+    /// What was made; throws an `error` if nothing was.
     const T &value() const & { return checked(), *made_; }
     T &value() & { return checked(), *made_; }
     T &&value() && { return checked(), *std::move(made_); }
-    /// The same where it is known that it was made.
+    /// What was made, if it is known that something was.
     const T &operator*() const & noexcept { return *made_; }
     T &operator*() & noexcept { return *made_; }
     T &&operator*() && noexcept { return *std::move(made_); }
     const T *operator->() const noexcept { return &*made_; }
     T *operator->() noexcept { return &*made_; }
-    /// What was made, or another.
+    /// What was made, or `other` if nothing was.
     template <class Other>
     [[nodiscard]] T value_or(Other &&other) const & {
         return made_.value_or(std::forward<Other>(other));
@@ -214,17 +218,17 @@ struct component {
     typed_path::kind kind;
     std::string_view text;
 
-    /// Whether it is a prefix, which Windows alone has.
+    /// Whether it is a prefix, which only Windows paths have.
     [[nodiscard]] constexpr bool is_prefix() const noexcept { return kind >= typed_path::kind::prefix_verbatim; }
 };
 
-/// The components of a path, read from either end. It holds no list: each step reads the text.
+/// The components of a path, read from either end. No list is held: each step reads the path.
 template <dialect D>
 class basic_components {
 public:
     class iterator {
     public:
-        // A component is told by its value, and so of the old categories this is one by name, as that of
+        // A component is returned by value, so this is of an old category by name alone, as the iterator of
         // std::filesystem::path is.
         using iterator_category = std::bidirectional_iterator_tag;
         using value_type = component;
@@ -278,7 +282,7 @@ public:
         iterator(std::string_view text, std::size_t start) noexcept : text_(text), one_{start, 0, 0} {}
 
         std::string_view text_;
-        // The component at which it stands, or the end of the text, and what is left behind that.
+        // The current component, or the end of the path, and what is left after it.
         typed_path_component one_{};
         typed_path_reading left_{};
     };
@@ -303,17 +307,17 @@ private:
     std::string_view text_;
 };
 
-/// Many names joined onto one base, in their order: of each its path, or what it was refused for.
+/// Many names joined onto one base, in their order: the path of each, or why it is refused.
 class joined_names {
 public:
-    /// How many names there were.
+    /// Returns how many names there are.
     [[nodiscard]] std::size_t size() const noexcept { return statuses_.size(); }
     [[nodiscard]] bool empty() const noexcept { return statuses_.empty(); }
-    /// What the name at an index, which is less than `size`, was refused for; or `done`.
+    /// Returns why the name at an index, which is less than `size`, is refused, or `done`.
     [[nodiscard]] typed_path::status status(std::size_t index) const noexcept {
         return static_cast<typed_path::status>(statuses_[index]);
     }
-    /// The path that was made of it, in the text of this value; empty if it was refused.
+    /// Returns the path that was made of the name, as a view of the text of this value; empty if it is refused.
     [[nodiscard]] std::string_view operator[](std::size_t index) const noexcept {
         const std::size_t start = index ? ends_[index - 1] : 0;
         return std::string_view(text_).substr(start, ends_[index] - start);
@@ -322,32 +326,33 @@ public:
 private:
     template <dialect D>
     friend class basic_path_view;
-    // The paths one after the other, where each ends, and the statuses.
+    // The paths one after the other, the index at which each ends, and the statuses.
     std::string text_;
     std::vector<std::size_t> ends_;
     std::vector<std::uint32_t> statuses_;
 };
 
-/// A path of a dialect: a view of a text, which has to outlive it. It takes no memory, and is passed by value.
+/// A path in a dialect: a view of its text, which has to outlive it. It allocates nothing, and is passed by
+/// value.
 template <dialect D>
 class basic_path_view {
 public:
     using components_type = basic_components<D>;
-    /// The dialect by which its text is read.
+    /// The dialect in which the text is read.
     static constexpr dialect dialect_of = D;
 
     constexpr basic_path_view() noexcept = default;
-    /// Of a std::string_view, a std::string, or a text that ends with a NUL.
+    /// The path of a std::string_view, a std::string, or a text that ends with a NUL.
     template <class Text, class = std::enable_if_t<std::is_convertible_v<const Text &, std::string_view>>>
     constexpr basic_path_view(const Text &text) noexcept : text_(text) {}
 #if defined(__cpp_lib_filesystem)
-    /// Of a path of the system, where that is one of Unix.
+    /// The Unix path of a path of the system, if that is a Unix path.
     template <class Path,
               class = std::enable_if_t<std::is_same_v<Path, std::filesystem::path> && D == dialect::Unix
                                        && std::is_same_v<typename Path::value_type, char>>,
               class = void>
     basic_path_view(const Path &path) noexcept : text_(path.native()) {}
-    /// It as a path of the system, where that is one of Unix.
+    /// The path as one of the system, if both are Unix paths.
     [[nodiscard]] std::filesystem::path to_filesystem() const {
         static_assert(D == dialect::Unix && std::is_same_v<std::filesystem::path::value_type, char>,
                       "std::filesystem reads paths of Unix here: convert() it first");
@@ -355,135 +360,144 @@ public:
     }
 #endif
 
-    /// Its text.
+    /// The text of the path.
     [[nodiscard]] constexpr std::string_view text() const noexcept { return text_; }
     [[nodiscard]] constexpr bool empty() const noexcept { return text_.empty(); }
 
-    // Paths that are made.
+    // Calls that make a path.
 
-    /// It with another pushed onto it, which replaces it if that is absolute; on Windows one with a prefix does so too, as
-    /// `D:x`, and one with a root replaces all but the prefix, as `\x`.
+    /// Returns the path with `other` pushed onto it: an absolute one replaces it, an empty one makes a copy. On
+    /// Windows one with a prefix replaces it too, as `D:x`, and one with a root replaces all but the prefix, as
+    /// `\x`.
     [[nodiscard]] std::string join(basic_path_view other) const {
         return made<typed_path_join>(join_bound(other), other);
     }
-    /// The same if the other has no component that offends: what is made lies within this path, if this one keeps its
-    /// prefix.
+    /// Returns the path with `other` pushed onto it, unless a component of `other` offends. What is made lies
+    /// within this path, if this one keeps its prefix.
     result<std::string> join_checked(basic_path_view other) const {
         return asked<typed_path_join_checked>(join_bound(other), other);
     }
-    /// The same if every system takes the other as it is written.
+    /// Returns what `join_checked` does, unless some system does not take `other` as it is written.
     result<std::string> join_portable(basic_path_view other) const {
         return asked<typed_path_join_portable>(join_bound(other), other);
     }
-    /// Joins each of a range of names as `join_checked` does, in one call; a name is what a std::string_view can be made
-    /// of.
+    /// Joins each of a range of names as `join_checked` does, in one call. A name is what a std::string_view can be
+    /// made of.
     template <class Names>
     [[nodiscard]] joined_names join_checked_each(const Names &names) const {
         return joined_each<typed_path_join_checked_batch>(names);
     }
-    /// The same as `join_portable` does.
+    /// Joins each of a range of names as `join_portable` does, in one call.
     template <class Names>
     [[nodiscard]] joined_names join_portable_each(const Names &names) const {
         return joined_each<typed_path_join_portable_batch>(names);
     }
-    /// The clean path of a checked join.
+    /// Returns the clean path of a checked join.
     result<std::string> resolve_checked(basic_path_view other) const {
         return asked<typed_path_resolve_checked>(TYPED_PATH_RESOLVE_BOUND(text_.size(), other.text_.size()), other);
     }
-    /// It with another file name, which is pushed as it is.
+    /// Returns a copy with another file name. If the path has no file name, `name` is pushed onto it as it is.
     [[nodiscard]] std::string with_file_name(basic_path_view name) const {
         return made<typed_path_with_file_name>(join_bound(name), name);
     }
-    /// It with another extension, which is put as it is; with none where that is empty.
+    /// Returns a copy whose file name has another extension, or none if `extension` is empty. The extension is
+    /// put as it is. Without a file name it is an unchanged copy.
     [[nodiscard]] std::string with_extension(std::string_view extension) const {
         return made<typed_path_with_extension>(extension_bound(extension), extension);
     }
-    /// It with one extension more.
+    /// Returns a copy with `extension` appended to its file name as it is, after a dot. Without a file name, or
+    /// with an empty extension, it is an unchanged copy.
     [[nodiscard]] std::string with_added_extension(std::string_view extension) const {
         return made<typed_path_with_added_extension>(extension_bound(extension), extension);
     }
-    /// It without `.`, and without `..` and the names that these take away.
+    /// Returns the path without `.`, and without `..` and the names that these cancel.
     [[nodiscard]] std::string normalize() const {
         return made<typed_path_normalize>(TYPED_PATH_NORMALIZE_BOUND(text_.size()));
     }
-    /// It as short as it can be written with no look at a disk; a relative path keeps the `..` that it needs.
+    /// Returns the path without `.`, doubled separators, and the names that a `..` cancels. A relative path keeps
+    /// the `..` that it needs. If nothing is left, it is `.`.
     [[nodiscard]] std::string clean() const { return made<typed_path_clean>(TYPED_PATH_CLEAN_BOUND(text_.size())); }
     /// The path from a base to this one, by `..` and names, if one is found.
     [[nodiscard]] std::optional<std::string> relative_to(basic_path_view base) const {
         auto led = asked<typed_path_relative_to>(TYPED_PATH_RELATIVE_BOUND(text_.size(), base.text_.size()), base);
         return led ? std::optional<std::string>(*std::move(led)) : std::nullopt;
     }
-    /// It as it is written in a dialect.
+    /// Returns the path as it is written in the dialect `to`: a copy if that is its own.
     [[nodiscard]] std::string convert(dialect to) const {
         return made<typed_path_convert>(TYPED_PATH_CONVERT_BOUND(text_.size()), to);
     }
-    /// The same if no component offends there.
+    /// Returns the path as it is written in the dialect `to` by checked pushes, unless a component offends there.
     result<std::string> convert_checked(dialect to) const {
         return asked<typed_path_convert_checked>(TYPED_PATH_CONVERT_BOUND(text_.size()), to);
     }
-    /// The normal path, read from a directory of Unix if it is not absolute; `ambiguous` if it isn't absolute there
-    /// either.
+    /// Returns the normal path of the path if it is absolute, else that of the Unix path `directory`, written in
+    /// this path's dialect, with the path pushed onto it; `ambiguous` if the path is absolute neither alone nor
+    /// after the directory.
     result<std::string> absolutize(basic_path_view<dialect::Unix> directory) const {
         return asked<typed_path_absolutize>(TYPED_PATH_JOIN_BOUND(text_.size(), directory.text().size()),
                                             directory.text());
     }
-    /// The same from a directory of either dialect.
+    /// Returns what `absolutize` does, with a directory of either dialect.
     template <dialect E>
     result<std::string> absolutize_from(basic_path_view<E> directory) const {
         const std::string_view from = directory.text();
         return asked<typed_path_absolutize_from>(TYPED_PATH_JOIN_BOUND(text_.size(), from.size()), E, from.data(),
                                                  from.size());
     }
-    /// It in lower case, in letters of ASCII; the `UNC` of a verbatim share stays.
+    /// Returns the path in lower case: with each ASCII letter in lower case, except the `UNC` of a prefix
+    /// `\\?\UNC\`.
     [[nodiscard]] std::string to_ascii_lowercase() const {
         return made<typed_path_to_ascii_lowercase>(TYPED_PATH_NORMALIZE_BOUND(text_.size()));
     }
-    /// The words of its key, for a hasher of one's own: one text for equal paths, and for no others.
+    /// Returns the words of the path's key, for a hasher of one's own: the same bytes for equal paths, and for no
+    /// others.
     [[nodiscard]] std::string key_words() const {
         return made<typed_path_key_words>(TYPED_PATH_KEY_BOUND(text_.size()));
     }
 
-    // Parts, which lie in its text.
+    // Parts, which lie in the text of the path.
 
-    /// It without its last component.
+    /// The path without its last component, if something is above that.
     [[nodiscard]] std::optional<std::string_view> parent() const noexcept { return part<typed_path_parent>(); }
-    /// Its last component, if that is a name.
+    /// The last component, if that is a name.
     [[nodiscard]] std::optional<std::string_view> file_name() const noexcept { return part<typed_path_file_name>(); }
-    /// The file name up to its last dot.
+    /// The file name up to its last dot, or the whole file name if it has no dot but one at its start.
     [[nodiscard]] std::optional<std::string_view> file_stem() const noexcept { return part<typed_path_file_stem>(); }
-    /// The file name up to its first dot.
+    /// The file name up to its first dot that is not at its start, or the whole file name if it has none.
     [[nodiscard]] std::optional<std::string_view> file_prefix() const noexcept {
         return part<typed_path_file_prefix>();
     }
-    /// What stands behind the last dot of the file name, without the dot.
+    /// What follows the last dot of the file name, if that has a dot other than one at its start.
     [[nodiscard]] std::optional<std::string_view> extension() const noexcept { return part<typed_path_extension>(); }
-    /// What is left behind a base, if it begins with that.
+    /// What is left of the path after `base`, if it begins with the components of that.
     [[nodiscard]] std::optional<std::string_view> strip_prefix(basic_path_view base) const noexcept {
         return part<typed_path_strip_prefix>(base);
     }
-    /// What it and another begin with, as it is written here.
+    /// The leading components that both paths share, as they are written here, if they share some.
     [[nodiscard]] std::optional<std::string_view> common_ancestor(basic_path_view other) const noexcept {
         return part<typed_path_common_ancestor>(other);
     }
-    /// It without a `\\?\` that adds nothing.
+    /// The path of a verbatim drive without its `\\?\`, if that means the same to Windows; else the path itself.
     [[nodiscard]] std::string_view simplified() const noexcept { return *part<typed_path_simplified>(); }
-    /// The names of its prefix: server and share, or one name or letter and an empty text.
+    /// The names of the prefix, if there is one: the server and the share, or one name or letter and an empty
+    /// text.
     [[nodiscard]] std::optional<std::pair<std::string_view, std::string_view>> prefix_names() const noexcept {
         typed_path_span first{}, second{};
         if (typed_path_prefix_names(number(), text_.data(), text_.size(), &first, &second) != TYPED_PATH_STATUS_DONE)
             return std::nullopt;
         return std::pair(in_text(first), in_text(second));
     }
-    /// Its components, from either end.
+    /// The components of the path, from either end.
     [[nodiscard]] components_type components() const noexcept { return components_type(text_); }
-    /// One of them, counted from 0, for which those before it are read.
+    /// The component at `index`, counted from 0, if there is one. Those before it are read too.
     [[nodiscard]] std::optional<component> component_at(std::size_t index) const noexcept {
         typed_path_component one{};
         if (typed_path_component_at(number(), text_.data(), text_.size(), index, &one) != TYPED_PATH_STATUS_DONE)
             return std::nullopt;
         return component{static_cast<kind>(one.kind), in_text({one.start, one.length})};
     }
-    /// Where another path goes that is pushed onto it in memory of one's own; nowhere if it is merged into it.
+    /// Where `other` goes if it is pushed onto this path in memory of one's own; nothing if it is merged into a
+    /// base with a verbatim prefix.
     [[nodiscard]] std::optional<typed_path_place> push_place(basic_path_view other) const noexcept {
         typed_path_place place{};
         if (call<typed_path_push_place>(other, &place) != TYPED_PATH_STATUS_DONE)
@@ -493,9 +507,10 @@ public:
 
     // Questions.
 
-    /// What a checked join refuses it for, whatever it is joined to; or `done`.
+    /// Returns the status of the first component for which a checked join refuses the path, whatever it is joined
+    /// to, or `done`.
     [[nodiscard]] status check() const noexcept { return static_cast<status>(call<typed_path_check>()); }
-    /// Why some system does not take each component as it is written; or `done`.
+    /// Returns the status of the first component that some system does not take as it is written, or `done`.
     [[nodiscard]] status check_portable() const noexcept {
         return static_cast<status>(call<typed_path_check_portable>());
     }
@@ -503,50 +518,52 @@ public:
     [[nodiscard]] bool is_absolute() const noexcept { return is<typed_path_is_absolute>(); }
     /// Whether it begins with a root, written or implied by a prefix other than `C:` and `\\?\C:`.
     [[nodiscard]] bool has_root() const noexcept { return is<typed_path_has_root>(); }
-    /// Whether each name of it is allowed.
+    /// Whether the dialect allows every name of the path.
     [[nodiscard]] bool is_valid() const noexcept { return is<typed_path_is_valid>(); }
-    /// Whether a name is allowed.
+    /// Whether the dialect allows `name`.
     [[nodiscard]] static bool is_valid_name(std::string_view name) noexcept {
         return basic_path_view(name).template is<typed_path_is_valid_name>();
     }
     /// Whether it has no prefix and every system takes each name as it is written.
     [[nodiscard]] bool is_portable() const noexcept { return is<typed_path_is_portable>(); }
-    /// Whether some version of Windows may take a name of it for a device.
+    /// Whether some version of Windows may take a name of the path for a device.
     [[nodiscard]] bool may_be_device() const noexcept { return is<typed_path_may_be_device>(); }
-    /// True only if every accepted join onto it has its prefix, and so lies within it.
+    /// Whether each path that a checked join makes of this one is known to have the prefix of this one, or none
+    /// if this one has none, and so lies within it. False leaves it open.
     [[nodiscard]] bool keeps_prefix() const noexcept { return is<typed_path_keeps_prefix>(); }
-    /// Whether it begins with the components of a base, as they are written: no check of containment.
+    /// Whether the path begins with the components of `base`, compared as they are written: no check of
+    /// containment.
     [[nodiscard]] bool starts_with(basic_path_view base) const noexcept { return is<typed_path_starts_with>(base); }
-    /// The same if both are in lower case, in letters of ASCII.
+    /// Whether the path in lower case begins with the components of `base` in lower case, in ASCII letters.
     [[nodiscard]] bool starts_with_ignore_ascii_case(basic_path_view base) const noexcept {
         return is<typed_path_starts_with_ignore_ascii_case>(base);
     }
-    /// Whether it ends with the components of another, as they are written.
+    /// Whether the path ends with the components of `end`, compared as they are written.
     [[nodiscard]] bool ends_with(basic_path_view end) const noexcept { return is<typed_path_ends_with>(end); }
-    /// Whether it lies at a base or below it, from whatever directory both are read.
+    /// Whether the path lies at `base` or below it, from whatever directory both are read.
     [[nodiscard]] bool is_within(basic_path_view base) const noexcept { return is<typed_path_is_within>(base); }
 
     // Equality, order and hash, each by the components.
 
-    /// Whether both have one list of components.
+    /// Whether both paths have the same components.
     [[nodiscard]] bool equals(basic_path_view other) const noexcept { return is<typed_path_equal>(other); }
-    /// The same if both are in lower case, in letters of ASCII.
+    /// Whether both paths have the same components in lower case, in ASCII letters.
     [[nodiscard]] bool equals_ignore_ascii_case(basic_path_view other) const noexcept {
         return is<typed_path_equal_ignore_ascii_case>(other);
     }
-    /// -1, 0 or 1.
+    /// Returns the order of both paths by components: -1, 0 or 1.
     [[nodiscard]] int compare(basic_path_view other) const noexcept {
         std::int32_t order = 0;
         (void)call<typed_path_compare>(other, &order);
         return order;
     }
-    /// The same of both in lower case.
+    /// Returns the order of both paths in lower case by components: -1, 0 or 1.
     [[nodiscard]] int compare_ignore_ascii_case(basic_path_view other) const noexcept {
         std::int32_t order = 0;
         (void)call<typed_path_compare_ignore_ascii_case>(other, &order);
         return order;
     }
-    /// A hash under a key of 128 bits: SipHash 1-3.
+    /// Returns a hash with a key of 128 bits: SipHash 1-3. Equal paths have the same.
     [[nodiscard]] std::uint64_t hash(std::uint64_t key0, std::uint64_t key1) const noexcept {
         std::uint64_t hash = 0;
         (void)typed_path_hash_keyed(number(), key0, key1, text_.data(), text_.size(), &hash);
@@ -577,7 +594,7 @@ private:
         return {text_.data() + span.start, span.length};
     }
 
-    // A call on its text: alone, or beside another text, or a dialect.
+    // A call with the path: alone, with another, or with a dialect.
     template <auto Call, class... Told>
     std::uint32_t call(Told... told) const noexcept {
         return Call(number(), text_.data(), text_.size(), told...);
@@ -661,7 +678,7 @@ using windows_components = basic_components<dialect::Windows>;
 
 namespace detail {
 
-// The key of std::hash, which is drawn once in a process, or in each shared object that hides its names.
+// The key of std::hash, which is drawn once in a process, or in each shared object that hides its symbols.
 inline const std::pair<std::uint64_t, std::uint64_t> &process_key() {
     static const std::pair<std::uint64_t, std::uint64_t> key = [] {
         std::random_device device;
@@ -675,7 +692,7 @@ inline const std::pair<std::uint64_t, std::uint64_t> &process_key() {
 }  // namespace detail
 
 /// The hash of std::hash, for maps whose keys are texts that are read as paths of a dialect. Names that strangers
-/// choose meet by chance alone, since its key is drawn at random once in a process.
+/// choose collide by chance alone, since its key is drawn at random once in a process.
 template <dialect D>
 struct path_hash {
     using is_transparent = void;
@@ -692,7 +709,7 @@ struct path_equal {
     bool operator()(basic_path_view<D> one, basic_path_view<D> other) const noexcept { return one.equals(other); }
 };
 
-/// Whether the first of two texts comes before the other as a path of a dialect.
+/// Whether the first of two texts is less than the other as a path of a dialect.
 template <dialect D>
 struct path_less {
     using is_transparent = void;
