@@ -1,11 +1,11 @@
 /* What an extractor asks before it writes: where each name of an archive goes below a folder, or why it is
-   refused. A link on a disk leads where it leads, so the folder is to be one that holds none.
+   refused. A link on a disk is not looked at and may lead elsewhere, so the folder should hold none.
 
    check_names unix|windows FOLDER < NAMES, one a line
    cc check_names.c $(pkg-config --cflags --libs typed_path) -o check_names
 
    It writes `ok`, a tab and the target, or the name of the refusal, a tab and the name. The status is 0 if all
-   were taken, 1 if some were refused, 2 if it could not go on. */
+   were accepted, 1 if some were refused, 2 if it could not go on. */
 #include <stdio.h>
 #include <stdlib.h>
 #include <string.h>

@@ -1,14 +1,14 @@
-/* Extracts an archive of tar or zip below a folder, and nothing anywhere else.
+/* Extracts a tar or zip archive below a folder, and nothing anywhere else.
 
    extract ARCHIVE FOLDER
    cc extract.c $(pkg-config --cflags --libs typed_path libarchive) -o extract
 
-   A name is taken if it is portable and stays below the folder (typed_path_join_portable), and is written as its clean
-   path. The folders on the way are opened one below the other, and no link is followed, so what is written lies below
-   FOLDER whatever stands there. Files, folders, and links that lead down are written, and nothing is written over.
-   Run it in a locale of UTF-8, or libarchive has no name for some entries, which are refused.
-   It writes `ok`, a tab and the path for each entry, or the reason, a tab and the name. The status is 0 if all were
-   taken, 1 if some were refused, 2 if it could not go on. */
+   A name is accepted if it is portable and stays below the folder (typed_path_join_portable), and is written as
+   its clean path. The folders on the way are opened one below the other, and no link is followed, so what is
+   written lies below FOLDER whatever is there. Files, folders, and links that lead down are written, and nothing
+   is overwritten. Run it in a locale of UTF-8, or libarchive has no name for some entries, which are refused.
+   It writes `ok`, a tab and the path for each entry, or the reason, a tab and the name. The status is 0 if all
+   were accepted, 1 if some were refused, 2 if it could not go on. */
 #define _XOPEN_SOURCE 700
 #include <archive.h>
 #include <archive_entry.h>
@@ -22,12 +22,12 @@
 #include <typed_path.h>
 #include <unistd.h>
 
-/* Why an entry was refused, beside the errors of the system and the statuses. */
+/* Reasons for a refusal, beside the errors of the system and the statuses. */
 static const char *const LINK_LEADS_UP = "link leads up", *const NO_FILE = "neither file, folder nor link";
 static const char *const NO_FOLDER = "a link or a file stands in the way";
 static char reason[TYPED_PATH_TEXT_BOUND];
 
-/* The text of a status that refuses; NULL for none. */
+/* Returns the text of a status that refuses, NULL if it does not. */
 static const char *refusal(uint32_t status) {
     size_t len;
     if (status == TYPED_PATH_STATUS_DONE)
@@ -35,7 +35,8 @@ static const char *refusal(uint32_t status) {
     return typed_path_status_text(status, reason, sizeof reason, &len) == TYPED_PATH_STATUS_DONE ? reason : "unknown";
 }
 
-/* Puts the clean path of a name below the folder, which is read from there: `a/b`, or `.` for the folder itself. */
+/* Sets `*path` to the clean path of a name, read from the folder: `a/b`, or `.` for the folder itself. Returns
+   NULL, or why the name is refused. */
 static const char *judge(const char *name, char **path, size_t *len) {
     size_t name_len = strlen(name), size = TYPED_PATH_CLEAN_BOUND(TYPED_PATH_JOIN_BOUND(1, name_len));
     char *joined = malloc(size);
@@ -50,8 +51,8 @@ static const char *judge(const char *name, char **path, size_t *len) {
     return refused;
 }
 
-/* Whether a link that is written leads nowhere but down: it is portable, and has no `..`. Links that may go up lead
-   out by others, as `a/..` does where `a` is one. */
+/* Returns NULL if a link leads nowhere but down, or why it is refused: it is not portable, or has a `..`. A link
+   that goes up may lead out by way of another, as `a/..` does if `a` is a link. */
 static const char *judge_link(const char *target) {
     size_t len = strlen(target);
     typed_path_reading reading = TYPED_PATH_READING(len);
@@ -69,7 +70,7 @@ static const char *judge_link(const char *target) {
     return NULL;
 }
 
-/* Opens the folder of a name in another one, and makes it if it is not there; a link is no folder. */
+/* Opens the folder of this name in another one, and makes it if it is missing. A link is not a folder. */
 static int open_folder(int in, const char *name) {
     const int how = O_RDONLY | O_DIRECTORY | O_NOFOLLOW | O_CLOEXEC;
     int folder = openat(in, name, how);
@@ -91,7 +92,7 @@ static const char *write_file(struct archive *from, struct archive_entry *entry,
     return refused;
 }
 
-/* Writes an entry, whose path is clean, below a folder: NULL, or why it can't be. */
+/* Writes an entry, whose path is clean, below a folder. Returns NULL, or why it can't. */
 static const char *write_entry(struct archive *from, struct archive_entry *entry, int below, char *path, size_t len) {
     const mode_t type = archive_entry_filetype(entry);
     const char *link = archive_entry_symlink(entry), *refused = NULL;
@@ -105,7 +106,7 @@ static const char *write_entry(struct archive *from, struct archive_entry *entry
         refused = judge_link(link);
     if (in < 0 && !refused)
         refused = strerror(errno);
-    /* Each name but the last, and of a folder the last too, is that of a folder. */
+    /* Each name but the last is that of a folder; if the entry is a folder, the last one too. */
     while (!refused && typed_path_next(TYPED_PATH_UNIX, path, len, &reading, &one) == TYPED_PATH_STATUS_DONE) {
         name = path + one.start;
         if (one.kind != TYPED_PATH_KIND_NAME)
@@ -132,7 +133,7 @@ static const char *write_entry(struct archive *from, struct archive_entry *entry
     return refused;
 }
 
-/* Prints the first bytes of a name, and those that no screen should get by their numbers. */
+/* Prints the first bytes of a name, and as numbers those that no screen should get. */
 static void print_name(const char *name) {
     for (size_t at = 0; at < 60 && name[at]; at++)
         printf(name[at] >= ' ' && name[at] < 127 && name[at] != '%' ? "%c" : "%%%02X", (unsigned char)name[at]);

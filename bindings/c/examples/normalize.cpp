@@ -8,7 +8,7 @@
 #include <string>
 #include <typed_path.h>
 
-// The path without `.`, and without `..` and the names that these take away.
+// Returns the path without `.`, and without `..` and the names that these cancel.
 static std::string normalized(uint32_t dialect, const std::string &path) {
     std::string out(TYPED_PATH_NORMALIZE_BOUND(path.size()), '\0');
     size_t len = 0;

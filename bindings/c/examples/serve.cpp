@@ -1,11 +1,11 @@
-// What a server does with the names that strangers send: it holds files in a map, under the paths that they name.
+// What a server does with the names that strangers send: it keeps files in a map, under the paths that they name.
 //
 // serve < REQUESTS, one a line: `PUT TARGET TEXT`, `GET TARGET`
 // c++ -std=c++17 serve.cpp $(pkg-config --cflags --libs typed_path) -o serve
 //
-// A target is `/` and a name, with `%` and two digits of base 16 for a byte. A name is taken if every system takes it,
-// and it stays below the folder. `/a//./b`, `/a/c/../b` and `/a/b` are one file. The key of the map's hash is drawn at
-// random, so strangers know no names that meet in one place of it.
+// A target is `/` and a name, with `%` and two hexadecimal digits for a byte. A name is accepted if every system
+// takes it and it stays below the folder. `/a//./b`, `/a/c/../b` and `/a/b` are one file. The key of the map's hash
+// is drawn at random, so strangers know no names that collide in it.
 #include <iostream>
 #include <sstream>
 #include <string>
@@ -19,14 +19,14 @@ class files {
 public:
     explicit files(std::string folder) : folder_(std::move(folder)) {}
 
-    // Puts a file in the place of one that is there; tells its path, or why it has none.
+    // Puts a file in place of one that is there. Returns its path, or why it has none.
     result<std::string> put(std::string_view target, std::string text) {
         auto path = path_of(target);
         if (path)
             files_.insert_or_assign(*path, std::move(text));
         return path;
     }
-    // The text of a file, a null pointer where there is none, or why its name can't be one.
+    // Returns the text of a file, a null pointer if there is none, or why its name is refused.
     result<const std::string *> get(std::string_view target) const {
         const auto path = path_of(target);
         if (!path)
@@ -36,7 +36,7 @@ public:
     }
 
 private:
-    // Where a target leads: below the folder, or nowhere.
+    // Returns where a target leads, which is below the folder, or why it is refused.
     result<std::string> path_of(std::string_view target) const {
         std::string name;
         if (target.empty() || target.front() != '/')

@@ -1,5 +1,5 @@
-/* Calls the library as a caller of C does, and looks at what it must not do: a line that begins with WRONG
-   says what it did. Each part looks at the rows, or at texts from a seed.
+/* Calls the library as a C caller does, and checks for what it must not do: a line that begins with WRONG
+   says what it did. Each part uses the rows, or paths from a seed.
 
    boundary ROWS PART */
 #include "rows.h"
@@ -26,7 +26,7 @@ static void look(bool holds, const char *what, const char *call, Text path, Text
                (int)other.length, other.bytes);
 }
 
-/* Some whole pages between two that may not be touched. */
+/* Some whole pages between two that cannot be accessed. */
 typedef struct Block {
     char *first;
     size_t size;
@@ -40,7 +40,7 @@ static Block block_of(size_t size) {
     return (Block){all + page, whole};
 }
 
-/* The first bytes of a block, or the last. */
+/* Returns the start of the first `size` bytes of a block, or of the last. */
 static char *place(Block block, size_t size, bool last) {
     return last ? block.first + block.size - size : block.first;
 }
@@ -52,7 +52,7 @@ static bool is_pattern(const char *bytes, size_t size) {
     return size <= sizeof pattern && (size == 0 || memcmp(bytes, pattern, size) == 0);
 }
 
-/* A copy of a text that may only be read; of an empty one NULL, or where its block ends. */
+/* Returns a read-only copy of a text at the front of a block, or at its end; for an empty one NULL, or the end. */
 static Text laid(Block block, Text text, bool last) {
     mprotect(block.first, block.size, PROT_READ | PROT_WRITE);
     char *to = place(block, text.length, last);
@@ -64,7 +64,7 @@ static Text laid(Block block, Text text, bool last) {
 
 static Block texts[2], answers, structs;
 
-/* Whether a call leaves a buffer of this size, between pages that may not be touched, as its answer has it. */
+/* Checks what a call puts into a buffer of this size, between pages that cannot be accessed, and what it returns. */
 static void look_at_size(
     const Call *call, uint32_t dialect, Text path, Text other, uint32_t status, Text answer, size_t size, bool last) {
     memset(answers.first, PATTERN, answers.size);
@@ -88,7 +88,7 @@ static void look_at_size(
          "bytes that are no answer", call->name, path, other);
 }
 
-/* Each size from 0 to the bound, at the beginning of a block and at its end. */
+/* Checks a call with each size from 0 to the bound, at the front of a block and at its end. */
 static void look_at_sizes(const Call *call, uint32_t dialect, Text path, Text other, uint32_t status, Text answer) {
     size_t bound = bound_of(call, path, other);
     look(status || answer.length < bound, "bound", call->name, path, other);
@@ -101,7 +101,7 @@ static void look_at_sizes(const Call *call, uint32_t dialect, Text path, Text ot
     }
 }
 
-/* What a call that puts nothing tells where a number names no dialect: it stays, and an answer is false. */
+/* Whether a call that puts nothing leaves what it would set if the dialect is bad; a question answers false. */
 static bool is_kept(const Row *bad, Text one, Text two) {
     const Call *call = bad->call;
     typed_path_component list[200], component = {5, 6, 7};
@@ -143,7 +143,7 @@ static bool is_kept(const Row *bad, Text one, Text two) {
     return true;
 }
 
-/* How many bytes a call tells its answer in. */
+/* Returns how many bytes a call that puts nothing sets. */
 static size_t size_told(const Call *call) {
     if (call->judge)
         return 0;
@@ -156,7 +156,7 @@ static size_t size_told(const Call *call) {
     return strcmp(call->name, "push_place") == 0 ? sizeof(typed_path_place) : sizeof(int32_t);
 }
 
-/* What is not put: the same status and answer with all that it is handed between such pages. */
+/* Checks a call that puts nothing, with all that it is handed between pages that cannot be accessed. */
 static void look_at_told(const Row *row) {
     const Call *call = row->call;
     size_t size = size_told(call);
@@ -182,7 +182,7 @@ static void look_at_told(const Row *row) {
     }
 }
 
-/* Arrays of each size for the components. */
+/* Checks the list of components with arrays of each size. */
 static void look_at_lists(uint32_t dialect, Text path) {
     typed_path_component all[200], some[200];
     size_t there = 0, count;
@@ -213,7 +213,7 @@ static void part_rows(void) {
     }
 }
 
-/* Texts from a seed, mostly with something of Windows at the front. */
+/* The state of random texts, which mostly begin with something of Windows. */
 static uint64_t state = 0x9e3779b97f4a7c15u;
 
 static size_t drawn(size_t below) {
@@ -235,7 +235,7 @@ static Text random_text(char *to) {
     return (Text){to, length};
 }
 
-/* What is told with a buffer of the bound is told with each other. */
+/* Checks that buffers of all sizes get what one of the bound gets. */
 static void part_random(void) {
     char one[100], two[100], out[300];
     for (size_t round = 0; round < 2000; round++) {
@@ -256,7 +256,7 @@ static void part_random(void) {
     }
 }
 
-/* Steps by turns take the components of a list from its ends, and leave the slice between them. */
+/* Checks that steps from either end take the components of the list, and leave the slice between them. */
 static void look_at_steps(uint32_t dialect, Text path) {
     typed_path_component list[200], one = {0, 0, 99};
     typed_path_reading left = TYPED_PATH_READING(path.length);
@@ -282,7 +282,7 @@ static void look_at_steps(uint32_t dialect, Text path) {
     }
 }
 
-/* Of any numbers a step tells a component within the path, and takes it, or leaves all as it was. */
+/* Checks that a step with any numbers takes a component within the path, or leaves all unchanged. */
 static void look_at_any_numbers(uint32_t dialect, Text path) {
     typed_path_reading left = {
         drawn(4) ? drawn(path.length + 3) : SIZE_MAX - drawn(9), drawn(4) ? drawn(path.length + 3) : SIZE_MAX - drawn(9),
@@ -329,7 +329,7 @@ static void part_steps(void) {
     look(refused > 100, "no push was merged", "push_place", NOTHING, NOTHING);
 }
 
-/* A batch, by what it is handed and tells. */
+/* A batch: what it is handed, and what it sets. */
 typedef struct Batch {
     const Call *call;
     uint32_t dialect;
@@ -349,7 +349,7 @@ static uint32_t done_by(Batch *batch, char *out) {
         batch->count, out, batch->size, batch->out_ends, batch->places, batch->statuses, batch->places, &batch->done);
 }
 
-/* Each name beside the call for one, as far as the batch had room and the ends were in order. */
+/* Compares each name with the call for one, as far as the batch had room and the ends were in order. */
 static void look_at_batch(Batch *batch) {
     char *out = place(answers, batch->size, true), one[400];
     uint32_t status = done_by(batch, out), wanted = TYPED_PATH_STATUS_DONE;
@@ -421,8 +421,8 @@ static void part_batch(void) {
     }
 }
 
-/* One word, with a separator behind each letter whose bit is set, but for the last: paths that differ, though
-   their names behind each other are one text. */
+/* A word with a separator after each letter whose bit is set, except the last: paths that differ, although
+   their names make one text. */
 #define CUTS 12
 
 static Text cut(char *to, size_t number) {
@@ -440,7 +440,7 @@ static int by_number(const void *one, const void *two) {
     return (a > b) - (a < b);
 }
 
-/* No two of these have one hash, nor has one of them the same under two keys. */
+/* Checks that no two of these paths have the same hash, and none has the same with two keys. */
 static void part_hashes(void) {
     static const uint64_t KEYS[][2] = {{0, 0}, {1, 0}, {0, 1}, {0x0123456789abcdefu, UINT64_MAX}};
     enum { COUNT = sizeof KEYS / sizeof *KEYS, PATHS = 1 << CUTS };
@@ -464,7 +464,7 @@ static void part_hashes(void) {
 
 typedef uint32_t SaidBy(uint32_t, char *, size_t, size_t *);
 
-/* Each of the first numbers has a text of its own, which is put as an answer is; others have none. */
+/* Checks that each of the first numbers has a text of its own, put like any answer, and other numbers have none. */
 static void look_at_texts(const char *name, SaidBy *said_by, uint32_t count) {
     static const uint32_t NO_NUMBERS[] = {99, UINT32_MAX};
     char texts_of[32][TYPED_PATH_TEXT_BOUND] = {""};
@@ -498,7 +498,7 @@ static void part_texts(void) {
     look_at_texts("kind_text", typed_path_kind_text, TYPED_PATH_KIND_PREFIX_DISK + 1);
 }
 
-/* Where malloc and realloc are the linker's to wrap, requests are counted, and refused by their number. */
+/* If the linker wraps malloc and realloc, requests are counted, and refused by their number. */
 static size_t requests, refuse_at, refuse_from, held;
 
 #ifdef REFUSES
@@ -532,7 +532,7 @@ void __wrap_free(void *block) {
 }
 #endif
 
-/* A call that is refused one request, or all from there on, says so and leaves all as it was, or does not need it. */
+/* Checks that a call with a request refused, or all from there on, says so and changes nothing, or succeeds. */
 static void look_refused(const Row *row, const char *wanted, size_t length, size_t bound, bool batch) {
     static char out[3000];
     size_t len = 12345, ends[1] = {row->other.length}, out_ends[1] = {12345}, before = held;
@@ -569,7 +569,7 @@ static void part_refused(void) {
             typed_path_component list[200];
             uint64_t told[4] = {0};
             size_t len;
-            /* The answer of push_place is told beside a join, which asks for memory: so it is asked alone. */
+            /* The answer of push_place is compared with a join, which allocates. So it is called alone here. */
             typed_path_place place = {0, 0};
             requests = 0;
             if (strcmp(row.call->name, "push_place") == 0)
@@ -601,7 +601,7 @@ static void part_refused(void) {
     look(all > 0, "none was refused", "refused", NOTHING, NOTHING);
 }
 
-/* A megabyte of some pieces, on a stack of 64 kB. */
+/* Makes each call with a megabyte of each piece, on a stack of 64 kB. */
 static void *each_long(void *wrong_texts) {
     static const char *const PIECES[] = {"a", "a/", "/", "./", "../", "a/../", "日", "\\", "a\\", "con/", "a.b"};
     static const Text BESIDE = {"C:\\x", 4};
@@ -654,7 +654,7 @@ static void part_long(void) {
     look(wrong_texts == 0, "a long text", "each call", NOTHING, NOTHING);
 }
 
-/* All rows, again and again. */
+/* Checks all rows, again and again. */
 static void *each_row(void *wrong_rows) {
     typed_path_component list[200];
     uint64_t told[4];

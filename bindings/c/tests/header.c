@@ -1,4 +1,4 @@
-/* Stands for any file of C or C++ that includes the header: it calls some of each sort and ends with 0. */
+/* Includes the header as any C or C++ file does, makes calls of each sort, and exits with 0 if these are right. */
 #include "typed_path.h"
 
 #include <string.h>

@@ -1,4 +1,5 @@
-// Stands for any file of C++17 or later that includes the header: it asks some of each sort, and ends with 0.
+// Includes the header as any file of C++17 or later does, makes some calls of each sort, and exits with 0 if they
+// are right.
 #include <typed_path.hpp>
 
 #include <algorithm>
@@ -8,7 +9,7 @@
 using namespace typed_path;
 using namespace std::literals;
 
-// The constants of C are numbers of one type.
+// The constants of C have one type.
 static_assert(std::is_same_v<decltype(TYPED_PATH_WINDOWS), std::uint32_t>);
 static_assert(std::is_same_v<decltype(TYPED_PATH_STATUS_NOT_TEXT), std::uint32_t>);
 static_assert(std::is_same_v<decltype(TYPED_PATH_KIND_PREFIX_DISK), std::uint32_t>);
@@ -36,7 +37,7 @@ static_assert(std::regular<unix_path> && std::totally_ordered<windows_path>);
 static_assert(std::three_way_comparable<unix_path, std::weak_ordering>);
 #endif
 
-// Maps find equal paths, by views and by texts; refusals are asked and thrown; paths of the system are taken.
+// Maps find equal paths, by views and by texts; refusals are returned and thrown; paths of the system are accepted.
 int main() {
     std::unordered_map<unix_path, int> views = {{"/a/b", 1}};
     std::unordered_map<std::string, int, windows_hash, windows_equal> texts;
@@ -60,7 +61,7 @@ int main() {
     good = good && unix_path(of_system).clean() == "/srv/a" && unix_path("/a").is_within(std::filesystem::path("/"))
         && unix_path("a/b").to_filesystem() == std::filesystem::path("a") / "b";
 #endif
-// The views of libstdc++ want a clang of 16 or later.
+// The views of libstdc++ need clang 16 or later.
 #if defined(__cpp_lib_ranges) && (!defined(__clang__) || __clang_major__ >= 16)
     const unix_path path = "/usr/lib/x.so";
     const auto is_name = [](component it) { return it.kind == kind::name; };

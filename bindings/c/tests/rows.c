@@ -5,7 +5,7 @@
 #include <stdlib.h>
 #include <string.h>
 
-/* From a directory of a dialect, each by a name of its own. */
+/* typed_path_absolutize_from with a directory of each dialect, as calls with names of their own. */
 static uint32_t absolutize_from_unix(
     uint32_t dialect, const char *path, size_t path_len, const char *directory, size_t directory_len,
     char *out, size_t out_size, size_t *len) {
@@ -108,7 +108,7 @@ static uint32_t dialect_of(const char *word) {
     return found(*word ? word : "unix", WORDS, 2);
 }
 
-/* The text of a field, in its place. */
+/* Returns the text of a field, decoded in place. */
 static Text text_of(char *field) {
     char *to = field;
     for (const char *from = field; *from; to++) {
@@ -190,7 +190,7 @@ size_t bound_of(const Call *call, Text path, Text other) {
     return TYPED_PATH_JOIN_BOUND(path.length, other.length);
 }
 
-/* Whether steps from one end, or the other, take the components of a list. */
+/* Whether steps from the front, or from the back, take the components of a list. */
 static bool is_stepped(const Row *row, Text path, const typed_path_component *list, size_t count, bool last) {
     typed_path_reading reading = TYPED_PATH_READING(path.length);
     typed_path_component one = {0, 0, 99};
@@ -226,7 +226,7 @@ static uint32_t listed(const Row *row, Text path, typed_path_component *list, ch
     return status;
 }
 
-/* The names of a prefix, with `|` between them. */
+/* Writes the names of a prefix, with `|` between them. */
 static uint32_t named(const Row *row, Text path, typed_path_span names[2], char *out, size_t *len) {
     uint32_t status = typed_path_prefix_names(row->dialect, path.bytes, path.length, &names[0], &names[1]);
     for (size_t at = 0; status == TYPED_PATH_STATUS_DONE && at < 2; at++) {
@@ -240,7 +240,7 @@ static uint32_t named(const Row *row, Text path, typed_path_span names[2], char 
     return status;
 }
 
-/* Whether a join puts a path where its place is. It asks for memory. */
+/* Whether a join puts a path at its place. It allocates. */
 static bool is_joined_at(const Row *row, Text path, Text other, const typed_path_place *place) {
     char joined[1000];
     size_t length = 0, between = place->kept + (place->separator != 0);
@@ -252,8 +252,8 @@ static bool is_joined_at(const Row *row, Text path, Text other, const typed_path
         && (!other.length || memcmp(joined + between, other.bytes, other.length) == 0);
 }
 
-/* How many bytes of a path are kept, and the separator behind them; put so, the answer is that of a join, which is not
-   asked where requests for memory are counted. */
+/* Writes how many bytes of a path are kept, and the separator after them. Checks that a join agrees, unless
+   requests for memory are counted. */
 static uint32_t placed(const Row *row, Text path, Text other, typed_path_place *place, char *out, size_t *len) {
 #ifdef REFUSES
     const bool joins = false;
@@ -274,7 +274,7 @@ static uint32_t placed(const Row *row, Text path, Text other, typed_path_place *
     return status;
 }
 
-/* The hash of a path, and that under a key. */
+/* Sets the hash of a path with a key of zeros, and that with another key. */
 static uint32_t hashed(uint32_t dialect, Text path, uint64_t hashes[2]) {
     uint32_t status = typed_path_hash(dialect, path.bytes, path.length, &hashes[0]);
     uint32_t other = typed_path_hash_keyed(dialect, 5, 6, path.bytes, path.length, &hashes[1]);

@@ -1,6 +1,6 @@
-// The rows of ../../rows.tsv by the header of C++.
+// The rows of ../../rows.tsv by the C++ header.
 //
-// rows FILE: prints what is wrong, and how many rows there were.
+// rows FILE: prints what is wrong, and how many rows there are.
 #include <typed_path.hpp>
 
 #include <algorithm>
@@ -16,7 +16,7 @@ using namespace std::literals;
 
 using Answer = std::variant<std::string, status>;
 
-// The status that the word of a row names.
+// Returns the status that the word of a row names.
 static status named(const std::string &word) {
     static const std::pair<const char *, status> statuses[] = {
         {"DONE", status::done},
@@ -70,7 +70,7 @@ static bool are_alike(const component &one, const component &other) {
     return one.kind == other.kind && one.text == other.text && one.text.data() == other.text.data();
 }
 
-// The components from the front, if those from the back, by steps to and fro and by their numbers are the same.
+// Returns the components from the front, if those from the back, by steps to and fro and by index are the same.
 template <dialect D>
 static Answer listed(basic_path_view<D> path) {
     const auto components = path.components();
@@ -97,7 +97,7 @@ static Answer listed(basic_path_view<D> path) {
     return said;
 }
 
-// The order, if the operators and the hashes agree with it.
+// Returns the order, if the operators and the hashes agree with it.
 template <dialect D>
 static Answer ordered(basic_path_view<D> path, basic_path_view<D> other) {
     const int order = path.compare(other);
@@ -110,7 +110,7 @@ static Answer ordered(basic_path_view<D> path, basic_path_view<D> other) {
     return std::to_string(order);
 }
 
-// What a batch of one name twice, with one between that is accepted, tells of it both times.
+// Returns the answer for one name, if a batch of it, an accepted name and it again gives that both times.
 static Answer twice(const joined_names &joined, const Answer &alone) {
     for (const std::size_t index : {std::size_t{0}, std::size_t{2}}) {
         const Answer one = joined.status(index) == status::done ? Answer(std::string(joined[index]))
@@ -183,7 +183,7 @@ static Answer asked(const std::string &call, const std::string &text, const std:
     return "no such call"s;
 }
 
-// The text of a field, in which `%` and two digits are a byte.
+// Returns the text of a field, in which `%` and two digits are a byte.
 static std::string text_of(const std::string &field) {
     std::string text;
     for (std::size_t at = 0; at < field.size(); at++) {

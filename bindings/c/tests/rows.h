@@ -21,7 +21,7 @@ typedef uint32_t BatchOf(
     uint32_t *, size_t, size_t *);
 typedef uint32_t AskOf(uint32_t, const char *, size_t, const char *, size_t, bool *);
 
-/* A call, by the one of the members that it is, and its batch if it has one. What else there is has none. */
+/* A call, as the one member that fits it, if any does, and its batch if it has one. */
 typedef struct Call {
     const char *name;
     Put *put;
@@ -48,23 +48,23 @@ extern const size_t CALL_COUNT;
 extern Row *rows;
 extern size_t row_count;
 
-/* Reads the rows of a file; ends the program where it can't. */
+/* Reads the rows of a file; ends the program if that fails. */
 void read_rows(const char *file);
 
 /* Whether a call puts an answer. */
 bool puts_answer(const Call *call);
 
-/* A call that puts an answer. Where the other text is a dialect, its first byte tells it. */
+/* Makes a call that puts an answer. If its other argument is a dialect, that is the first byte of `other`. */
 uint32_t put_by(const Call *call, uint32_t dialect, Text path, Text other, char *out, size_t size, size_t *len);
 
-/* The bound of its answer. */
+/* Returns the bound of its answer. */
 size_t bound_of(const Call *call, Text path, Text other);
 
-/* Asks a call of any kind, and puts what it told as rows have it; `told` and `list` are where it tells. */
+/* Makes a call of any kind, and writes what it set as rows have it; `told` and `list` are what it sets. */
 uint32_t told_by(
     const Row *row, Text path, Text other, void *told, typed_path_component *list, char *out, size_t *len);
 
-/* Whether a call answers as its row says. */
+/* Whether a call answered as its row says. */
 bool is_answered(const Row *row, uint32_t status, const char *out, size_t len);
 
 #endif
