@@ -644,15 +644,18 @@ private:
         out.ends_.resize(ends.size());
         out.statuses_.resize(ends.size());
         std::size_t done = 0;
-        (void)detail::put_in(
+        const status told = detail::put_in(
             out.text_, TYPED_PATH_BATCH_BOUND(text_.size(), all.size(), ends.size()),
             [&](char *at, std::size_t size, std::size_t *len) {
-                const std::uint32_t told =
+                const std::uint32_t ended =
                     Batch(number(), text_.data(), text_.size(), all.data(), all.size(), ends.data(), ends.size(), at,
                           size, out.ends_.data(), out.ends_.size(), out.statuses_.data(), out.statuses_.size(), &done);
                 *len = out.ends_.empty() ? 0 : out.ends_.back();
-                return told;
+                return ended;
             });
+        // A bound that wraps is of more bytes than there are.
+        if (told != status::done)
+            detail::thrown(std::bad_alloc());
         return out;
     }
     template <auto Call, class... Other>
