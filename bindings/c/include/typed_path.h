@@ -213,7 +213,7 @@ TYPED_PATH_MUST_USE uint32_t typed_path_with_added_extension(
 TYPED_PATH_MUST_USE uint32_t typed_path_normalize(
     uint32_t dialect, const char *path, size_t path_len, char *out, size_t out_size, size_t *len);
 
-/* Puts the path in lower case: each letter of ASCII, but for the `UNC` of `\\?\UNC\` before a server, which is read so
+/* Puts the path in lower case: each letter of ASCII, but on Windows for the `UNC` of `\\?\UNC\` before a server, read so
    only in capitals. TYPED_PATH_NORMALIZE_BOUND. */
 TYPED_PATH_MUST_USE uint32_t typed_path_to_ascii_lowercase(
     uint32_t dialect, const char *path, size_t path_len, char *out, size_t out_size, size_t *len);
@@ -383,7 +383,8 @@ TYPED_PATH_MUST_USE uint32_t typed_path_check_portable(uint32_t dialect, const c
 TYPED_PATH_MUST_USE uint32_t typed_path_is_absolute(
     uint32_t dialect, const char *path, size_t path_len, bool *answer);
 
-/* Whether it begins with a root, written or implied by a prefix other than `C:` and `\\?\C:`. */
+/* Whether it has a root: one written first or right after the prefix, as in `C:\a`, or one implied by a prefix other
+   than `C:` and `\\?\C:`. */
 TYPED_PATH_MUST_USE uint32_t typed_path_has_root(
     uint32_t dialect, const char *path, size_t path_len, bool *answer);
 

@@ -516,7 +516,8 @@ public:
     }
     /// Whether it is absolute; on Windows `C:\a` and `\\s\h` are, and `C:a`, `\a`, `\\s` and `\\.\COM1` are not.
     [[nodiscard]] bool is_absolute() const noexcept { return is<typed_path_is_absolute>(); }
-    /// Whether it begins with a root, written or implied by a prefix other than `C:` and `\\?\C:`.
+    /// Whether it has a root: one written first or right after the prefix, as in `C:\a`, or one implied by a prefix
+    /// other than `C:` and `\\?\C:`.
     [[nodiscard]] bool has_root() const noexcept { return is<typed_path_has_root>(); }
     /// Whether the dialect allows every name of the path.
     [[nodiscard]] bool is_valid() const noexcept { return is<typed_path_is_valid>(); }

@@ -54,7 +54,8 @@ pub extern "C" fn typed_path_is_absolute(dialect: u32, path: &[u8], answer: &mut
     of_path!(dialect, path => tell(path.is_absolute(), answer), tell_none(answer))
 }
 
-/// Whether it begins with a root, written or implied by a prefix other than `C:` and `\\?\C:`.
+/// Whether it has a root: one written first or right after the prefix, as in `C:\a`, or one implied
+/// by a prefix other than `C:` and `\\?\C:`.
 #[unsafe(no_mangle)]
 pub extern "C" fn typed_path_has_root(dialect: u32, path: &[u8], answer: &mut bool) -> u32
     ensures { Tells dialect (λ d. has_root d (kinds (parts_of d path.now))) answer.new result }

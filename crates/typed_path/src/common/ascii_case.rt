@@ -66,8 +66,8 @@ impl<'a, T: Encoding> Path<'a, T> {
         true
     }
 
-    /// Returns the path in lower case: with each ASCII letter in lower case, except the `UNC` of
-    /// `\\?\UNC\` before a server, which is read so only in capitals.
+    /// Returns the path in lower case: with each ASCII letter in lower case, except on Windows the
+    /// `UNC` of `\\?\UNC\` before a server, which is read so only in capitals.
     ///
     /// That of `Src/É` is `src/É`, and on Windows that of `\\?\UNC\S\H` is `\\?\UNC\s\h`.
     ///

@@ -121,8 +121,8 @@ impl<'a, T: Encoding, I> Reading<'a, T, I> {
         T::absolute(&self.cursor)
     }
 
-    /// Whether the components that are left begin with a root, written or implied by a prefix other
-    /// than `C:` and `\\?\C:`.
+    /// Whether the components that are left have a root: one written first or right after the prefix,
+    /// as in `C:\a`, or one implied by a prefix other than `C:` and `\\?\C:`.
     pub fn has_root(self) -> bool
         ensures { result ≡ has_root T.dialect (kinds (components_parts self.entry)) }
     {
@@ -215,7 +215,7 @@ impl<'a, T: Encoding> Reading<'a, T, Texts> {
 impl<'a, T: Encoding> Reading<'a, T, Values> {
     ghost use Rattle.typed_path.specs.views.PathViews.{path_bytes, components_slice};
 
-    /// The slice left, as a path in the encoding that the caller names.
+    /// Returns the slice left, unconverted, as a path in the encoding that the caller names.
     pub fn as_path<U: Encoding>(self) -> Path<'a, U>
         ensures { path_bytes result ≡ components_slice self.entry }
     {

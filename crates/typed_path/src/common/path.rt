@@ -74,10 +74,10 @@ impl<'a, T: Encoding> Path<'a, T> {
         !self.is_absolute()
     }
 
-    /// Whether the path begins with a root, written or implied by a prefix other than `C:` and
-    /// `\\?\C:`.
+    /// Whether the path has a root: one written first or right after the prefix, as in `C:\a`, or one
+    /// implied by a prefix other than `C:` and `\\?\C:`.
     ///
-    /// On Windows `\a` and `\\s\h` do, and `C:a` does not.
+    /// On Windows `\a` and `\\s\h` have one, and `C:a` has none.
     pub fn has_root(self) -> bool
         ensures { result ≡ has_root T.dialect (kinds (parts_of T.dialect (path_bytes self.entry))) }
     {
@@ -257,10 +257,10 @@ impl<'a, T: Encoding> Path<'a, T> {
         Some(first_stem(name))
     }
 
-    /// Whether the last byte separates components of the path.
+    /// Whether the last byte is a separator of the path, as that of `a/`, and of `/` alone. On Windows
+    /// `/` is none if the path begins with `\\?\`.
     ///
-    /// That of `a/` does. On Windows that of `a\` does too, and that of `\\?\C:\a/` does not, since
-    /// no `/` separates after `\\?\`.
+    /// On Windows that of `a\` is one too, and that of `\\?\C:\a/` is none.
     pub fn has_trailing_separator(self) -> bool
         ensures { result ≡ has_trailing_separator T.dialect (path_bytes self.entry) }
     {

@@ -20,7 +20,9 @@ use crate::common::path::Path;
 use crate::common::relative::{bare_separators, near_steps};
 use crate::scan::{Body, Cursor, StepKind, shared_front};
 
-/// Whether `path` lies at `base` or below it.
+/// Whether `path` lies at `base` or below it, from whatever directory both are read: a `..` cancels
+/// the name before it, and one without such a name leads above where the path begins, or after a
+/// root nowhere.
 pub(crate) fn is_within<T: Encoding>(path: &[u8], base: &[u8]) -> bool
     ensures { result ≡ is_within T.dialect path.now base.now }
 {

@@ -133,8 +133,8 @@ impl<'a> TypedPath<'a> {
         each!(self, path => path.is_relative())
     }
 
-    /// Whether the path begins with a root, written or implied by a prefix other than `C:` and
-    /// `\\?\C:`.
+    /// Whether the path has a root: one written first or right after the prefix, as in `C:\a`, or one
+    /// implied by a prefix other than `C:` and `\\?\C:`.
     pub fn has_root(self) -> bool
         ensures { result ≡ has_root (typed_dialect self.entry)
             (kinds (parts_of (typed_dialect self.entry) (typed_bytes self.entry))) }
@@ -254,7 +254,8 @@ impl<'a> TypedPath<'a> {
         each!(self, path => path.file_prefix())
     }
 
-    /// Whether the last byte separates components of the path.
+    /// Whether the last byte is a separator of the path, as that of `a/`, and of `/` alone. On Windows
+    /// `/` is none if the path begins with `\\?\`.
     pub fn has_trailing_separator(self) -> bool
         ensures { result ≡ has_trailing_separator (typed_dialect self.entry) (typed_bytes self.entry) }
     {
@@ -484,7 +485,8 @@ impl<'a> TypedPath<'a> {
         typed_result!(self, path => path.clean(alloc))
     }
 
-    /// Returns the path in lower case, as [`Path::to_ascii_lowercase`] does.
+    /// Returns the path with each ASCII letter in lower case, except on Windows the `UNC` of
+    /// `\\?\UNC\` before a server, as [`Path::to_ascii_lowercase`] does.
     pub fn to_ascii_lowercase(self, alloc: Global) -> Result<TypedPathBuf, AllocError>
         ensures dialect { IfOk result (λ p. typed_dialect p ≡ typed_dialect self.entry) }
         ensures bytes { IfOk result (λ p. owned_bytes p

@@ -29,7 +29,8 @@ pub enum UnixComponent<'a> {
 }
 
 impl<'a> UnixComponent<'a> {
-    /// The path of this one component, in the encoding that the caller names.
+    /// Returns the bytes of this one component as a path in the encoding that the caller names. Nothing
+    /// is converted.
     pub fn as_path<T: Encoding>(self) -> Path<'a, T>
         ensures { path_bytes result ≡ (unix_part self.entry).text }
     {

@@ -166,8 +166,8 @@ impl<'a, T: Utf8Encoding> Utf8Path<'a, T> {
         self.path.is_relative()
     }
 
-    /// Whether the path begins with a root, written or implied by a prefix other than `C:` and
-    /// `\\?\C:`.
+    /// Whether the path has a root: one written first or right after the prefix, as in `C:\a`, or one
+    /// implied by a prefix other than `C:` and `\\?\C:`.
     pub fn has_root(self) -> bool
         ensures { result ≡ has_root T.Bytes.dialect
             (kinds (parts_of T.Bytes.dialect (utf8_bytes self.entry))) }
@@ -299,7 +299,8 @@ impl<'a, T: Utf8Encoding> Utf8Path<'a, T> {
         text_of_option(self.as_bytes_path().file_prefix())
     }
 
-    /// Whether the last character separates components of the path.
+    /// Whether the last character is a separator of the path, as that of `a/`, and of `/` alone. On
+    /// Windows `/` is none if the path begins with `\\?\`.
     pub fn has_trailing_separator(self) -> bool
         ensures { result ≡ has_trailing_separator T.Bytes.dialect (utf8_bytes self.entry) }
     {
@@ -547,7 +548,8 @@ impl<'a, T: Utf8Encoding> Utf8Path<'a, T> {
         owned!(self.as_bytes_path().clean(alloc))
     }
 
-    /// Returns the path in lower case, as
+    /// Returns the path with each ASCII letter in lower case, except on Windows the `UNC` of
+    /// `\\?\UNC\` before a server, as
     /// [`Path::to_ascii_lowercase`](crate::Path::to_ascii_lowercase) does.
     #[tactic(auto, using(crate::proofs::lemmas::texts::TextChanges::text_laws, crate::proofs::lemmas::texts::TextLowered::lowered_laws))]
     pub fn to_ascii_lowercase(self, alloc: Global) -> Result<Utf8PathBuf<T>, AllocError>

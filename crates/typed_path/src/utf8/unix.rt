@@ -103,7 +103,8 @@ impl<'a> Utf8UnixComponent<'a> {
         }
     }
 
-    /// The path of this one component, in the encoding that the caller names.
+    /// Returns the text of this one component as a path in the encoding that the caller names. Nothing
+    /// is converted.
     pub fn as_path<T: Utf8Encoding>(self) -> Utf8Path<'a, T>
         ensures { utf8_bytes result ≡ (text_unix_part self.entry).text }
     {
@@ -208,7 +209,7 @@ impl<'a> FromPiece<'a, Utf8UnixEncoding> for Utf8UnixComponent<'a> {
 }
 
 impl<'a> Utf8Reading<'a, Utf8UnixEncoding, Utf8UnixComponent<'a>> {
-    /// The slice left, as a path in the encoding that the caller names.
+    /// Returns the slice left, unconverted, as a path in the encoding that the caller names.
     pub fn as_path<U: Utf8Encoding>(self) -> Utf8Path<'a, U>
         ensures { utf8_bytes result ≡ reading_slice self.entry }
     {

@@ -362,7 +362,8 @@ impl<'a> Utf8WindowsComponent<'a> {
         Some(self.prefix()?.kind())
     }
 
-    /// The path of this one component, in the encoding that the caller names.
+    /// Returns the text of this one component as a path in the encoding that the caller names. Nothing
+    /// is converted.
     pub fn as_path<T: Utf8Encoding>(self) -> Utf8Path<'a, T>
         ensures { utf8_bytes result ≡ (text_windows_part self.entry).text }
     {
@@ -494,7 +495,7 @@ impl<'a> TryFrom<&'a str> for Utf8WindowsComponent<'a> {
 pub type Utf8WindowsComponents<'a> = Utf8Reading<'a, Utf8WindowsEncoding, Utf8WindowsComponent<'a>>;
 
 impl<'a> Utf8Reading<'a, Utf8WindowsEncoding, Utf8WindowsComponent<'a>> {
-    /// The slice left, as a path in the encoding that the caller names.
+    /// Returns the slice left, unconverted, as a path in the encoding that the caller names.
     pub fn as_path<U: Utf8Encoding>(self) -> Utf8Path<'a, U>
         ensures { utf8_bytes result ≡ reading_slice self.entry }
     {

@@ -252,9 +252,9 @@ fn put_one_by_one(text: &mut Vec<u8>, len: usize, path: &[u8]) -> Result<bool, A
     put_segment(text, len, rest, rest)
 }
 
-/// Applies `segment`, with which `rest` begins, to the names in `text[len..]`: appends a name with
-/// `\` after it, removes the last name for `..`, and skips an empty segment and `.`. Returns
-/// `false`, and changes nothing, if `segment` begins with a drive `C:`.
+/// Applies `segment`, with which `rest` begins, to the names in `text[len..]`: appends a name and a
+/// `\`, removes the last name for `..`, skips an empty segment and `.`. Returns `false`, changing
+/// nothing, if it begins with a drive `C:`. Spare capacity for `rest` and one byte more is enough.
 #[inline(always)]
 fn put_segment(
     text: &mut Vec<u8>,

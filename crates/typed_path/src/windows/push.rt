@@ -370,7 +370,8 @@ pub fn merge_at(
 }
 
 /// Returns the length in bytes of the prefix of `base` if that is verbatim and `base` is spelled,
-/// else `None`. A `known` length that fits is taken for right.
+/// else `None`. A `known` length that is no more than that of `base` is returned unchecked; it has
+/// to be what [`push_next`] returned for `base`.
 fn known_head(base: &[u8], known: Option<usize>) -> Option<usize>
     ensures within { IfSome result (λ head. head ≤ length base.now) }
     ensures told { IsKnown windows known base.now → IsSpelledHead result base.now }
@@ -410,8 +411,9 @@ fn merge_in_place(
     Ok(())
 }
 
-/// Returns the spelled path of `base`, which has a prefix, with `other`, which has none, merged
-/// into it.
+/// Returns `base`, which has a prefix, spelled, once the components of `other`, which has none, are
+/// merged into it: a root leaves its prefix alone and a root, `..` removes its last component if
+/// that is a name, and `.` does nothing. What else `base` has stays, `.` and `..` too.
 fn spelled_anew(alloc: Global, base: &[u8], other: &[u8]) -> Result<Vec<u8>, AllocError>
     requires own { has_prefix (kinds (parts_of windows base.now)) ≡ true }
     requires no_prefix { has_prefix (kinds (parts_of windows other.now)) ≡ false }
