@@ -121,8 +121,8 @@ impl<'a, T: Encoding, I> Reading<'a, T, I> {
         T::absolute(&self.cursor)
     }
 
-    /// Whether the components that are left have a root: one written first or right after the prefix,
-    /// as in `C:\a`, or one implied by a prefix other than `C:` and `\\?\C:`.
+    /// Whether the components that are left have a root: one written first or right after the
+    /// prefix, as in `C:\a`, or one implied by a prefix other than `C:` and `\\?\C:`.
     pub fn has_root(self) -> bool
         ensures { result ≡ has_root T.dialect (kinds (components_parts self.entry)) }
     {

@@ -74,8 +74,8 @@ impl<'a, T: Encoding> Path<'a, T> {
         !self.is_absolute()
     }
 
-    /// Whether the path has a root: one written first or right after the prefix, as in `C:\a`, or one
-    /// implied by a prefix other than `C:` and `\\?\C:`.
+    /// Whether the path has a root: one written first or right after the prefix, as in `C:\a`, or
+    /// one implied by a prefix other than `C:` and `\\?\C:`.
     ///
     /// On Windows `\a` and `\\s\h` have one, and `C:a` has none.
     pub fn has_root(self) -> bool
@@ -257,8 +257,8 @@ impl<'a, T: Encoding> Path<'a, T> {
         Some(first_stem(name))
     }
 
-    /// Whether the last byte is a separator of the path, as that of `a/`, and of `/` alone. On Windows
-    /// `/` is none if the path begins with `\\?\`.
+    /// Whether the last byte is a separator of the path, as that of `a/`, and of `/` alone. On
+    /// Windows `/` is none if the path begins with `\\?\`.
     ///
     /// On Windows that of `a\` is one too, and that of `\\?\C:\a/` is none.
     pub fn has_trailing_separator(self) -> bool

@@ -133,8 +133,8 @@ impl<'a> TypedPath<'a> {
         each!(self, path => path.is_relative())
     }
 
-    /// Whether the path has a root: one written first or right after the prefix, as in `C:\a`, or one
-    /// implied by a prefix other than `C:` and `\\?\C:`.
+    /// Whether the path has a root: one written first or right after the prefix, as in `C:\a`, or
+    /// one implied by a prefix other than `C:` and `\\?\C:`.
     pub fn has_root(self) -> bool
         ensures { result ≡ has_root (typed_dialect self.entry)
             (kinds (parts_of (typed_dialect self.entry) (typed_bytes self.entry))) }
@@ -254,8 +254,8 @@ impl<'a> TypedPath<'a> {
         each!(self, path => path.file_prefix())
     }
 
-    /// Whether the last byte is a separator of the path, as that of `a/`, and of `/` alone. On Windows
-    /// `/` is none if the path begins with `\\?\`.
+    /// Whether the last byte is a separator of the path, as that of `a/`, and of `/` alone. On
+    /// Windows `/` is none if the path begins with `\\?\`.
     pub fn has_trailing_separator(self) -> bool
         ensures { result ≡ has_trailing_separator (typed_dialect self.entry) (typed_bytes self.entry) }
     {

@@ -93,8 +93,8 @@ impl<'a> TypedComponents<'a> {
         each!(self, reading => reading.is_absolute())
     }
 
-    /// Whether the components that are left have a root: one written first or right after the prefix,
-    /// as in `C:\a`, or one implied by a prefix other than `C:` and `\\?\C:`.
+    /// Whether the components that are left have a root: one written first or right after the
+    /// prefix, as in `C:\a`, or one implied by a prefix other than `C:` and `\\?\C:`.
     pub fn has_root(self) -> bool
         ensures { result ≡ has_root (reading_dialect self.entry) (kinds (typed_parts self.entry)) }
     {

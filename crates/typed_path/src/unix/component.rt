@@ -29,8 +29,8 @@ pub enum UnixComponent<'a> {
 }
 
 impl<'a> UnixComponent<'a> {
-    /// Returns the bytes of this one component as a path in the encoding that the caller names. Nothing
-    /// is converted.
+    /// Returns the bytes of this one component as a path in the encoding that the caller names.
+    /// Nothing is converted.
     pub fn as_path<T: Encoding>(self) -> Path<'a, T>
         ensures { path_bytes result ≡ (unix_part self.entry).text }
     {

@@ -166,8 +166,8 @@ impl<'a, T: Utf8Encoding> Utf8Path<'a, T> {
         self.path.is_relative()
     }
 
-    /// Whether the path has a root: one written first or right after the prefix, as in `C:\a`, or one
-    /// implied by a prefix other than `C:` and `\\?\C:`.
+    /// Whether the path has a root: one written first or right after the prefix, as in `C:\a`, or
+    /// one implied by a prefix other than `C:` and `\\?\C:`.
     pub fn has_root(self) -> bool
         ensures { result ≡ has_root T.Bytes.dialect
             (kinds (parts_of T.Bytes.dialect (utf8_bytes self.entry))) }

@@ -124,8 +124,8 @@ impl<'a, T: Utf8Encoding, I> Utf8Reading<'a, T, I> {
         self.components.is_absolute()
     }
 
-    /// Whether the components that are left have a root: one written first or right after the prefix,
-    /// as in `C:\a`, or one implied by a prefix other than `C:` and `\\?\C:`.
+    /// Whether the components that are left have a root: one written first or right after the
+    /// prefix, as in `C:\a`, or one implied by a prefix other than `C:` and `\\?\C:`.
     pub fn has_root(self) -> bool
         ensures { result ≡ has_root T.Bytes.dialect (kinds (reading_parts self.entry)) }
     {

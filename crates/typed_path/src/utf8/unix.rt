@@ -103,8 +103,8 @@ impl<'a> Utf8UnixComponent<'a> {
         }
     }
 
-    /// Returns the text of this one component as a path in the encoding that the caller names. Nothing
-    /// is converted.
+    /// Returns the text of this one component as a path in the encoding that the caller names.
+    /// Nothing is converted.
     pub fn as_path<T: Utf8Encoding>(self) -> Utf8Path<'a, T>
         ensures { utf8_bytes result ≡ (text_unix_part self.entry).text }
     {

@@ -362,8 +362,8 @@ impl<'a> Utf8WindowsComponent<'a> {
         Some(self.prefix()?.kind())
     }
 
-    /// Returns the text of this one component as a path in the encoding that the caller names. Nothing
-    /// is converted.
+    /// Returns the text of this one component as a path in the encoding that the caller names.
+    /// Nothing is converted.
     pub fn as_path<T: Utf8Encoding>(self) -> Utf8Path<'a, T>
         ensures { utf8_bytes result ≡ (text_windows_part self.entry).text }
     {

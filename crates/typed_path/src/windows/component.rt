@@ -219,8 +219,8 @@ impl<'a> WindowsComponent<'a> {
     ghost use Rattle.typed_path.specs.views.PathViews.{path_bytes};
     ghost use Rattle.typed_path.specs.views.WindowsViews.{windows_part, prefix_component_part};
 
-    /// Returns the bytes of this one component as a path in the encoding that the caller names. Nothing
-    /// is converted.
+    /// Returns the bytes of this one component as a path in the encoding that the caller names.
+    /// Nothing is converted.
     pub fn as_path<T: Encoding>(self) -> Path<'a, T>
         ensures { path_bytes result ≡ (windows_part self.entry).text }
     {

@@ -107,8 +107,8 @@ impl<'a> Utf8TypedPath<'a> {
         each!(self, path => path.is_relative())
     }
 
-    /// Whether the path has a root: one written first or right after the prefix, as in `C:\a`, or one
-    /// implied by a prefix other than `C:` and `\\?\C:`.
+    /// Whether the path has a root: one written first or right after the prefix, as in `C:\a`, or
+    /// one implied by a prefix other than `C:` and `\\?\C:`.
     pub fn has_root(self) -> bool
         ensures { result ≡ has_root (typed_dialect self.entry)
             (kinds (parts_of (typed_dialect self.entry) (typed_text self.entry))) }
