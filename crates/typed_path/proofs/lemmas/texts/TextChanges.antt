@@ -14,7 +14,7 @@ use Rattle.typed_path.specs.changes.{ended_with, push_unix, prefix_alone, withou
 use Rattle.typed_path.specs.texts.{are_texts, is_text_part, are_text_parts, is_text_option}
 use Rattle.typed_path.specs.scan.{last_of, but_last, first_part, last_part}
 use Rattle.typed_path.specs.places.{resolve, normal_text}
-use Rattle.typed_path.specs.conversions.{crossed, converted, converted_checked, absolute_under}
+use Rattle.typed_path.specs.conversions.{crossed, converted, converted_checked, platform, absolute_from, absolute_under}
 use Rattle.typed_path.specs.views.PieceViews.{part_of}
 use Rattle.typed_path.proofs.lemmas.lists.Lists.{AllByRecursion-append, AllByRecursion-last}
 use Rattle.typed_path.proofs.lemmas.texts.TextCuts.{byte-utf8, after_mark-utf8, prefix-text, ascii-cuts, IsCut, comps-cut, slash-text, backslash-text, current-text, parent-text as parent_part-text, name-text}
@@ -304,6 +304,9 @@ common_ancestor-some d t o u is e = text_from _ u (common_ancestor-text d t is o
 pub absolute_under-some : (d e : Dialect) (directory t u : List ℕ) → is_utf8 directory ≡ true → is_utf8 t ≡ true → absolute_under d e directory t ≡ Some u → is_utf8 u ≡ true
 absolute_under-some d e directory t u base is made = text_from _ u (absolute_under-text d e directory t base is) made
 
+pub absolute_from-some : (d : Dialect) (directory t u : List ℕ) → is_utf8 directory ≡ true → is_utf8 t ≡ true → absolute_from d directory t ≡ Some u → is_utf8 u ≡ true
+absolute_from-some d directory t u base is made = absolute_under-some d platform directory t u base is made
+
 -- the components of a text are written as their dialect writes them, and stay so as some are taken
 pub written-starts : (d : Dialect) (t : List ℕ) → parts (comps d t) ≡ as_written d (parts (comps d t))
 written-starts d t = written-parts_of d t
@@ -322,7 +325,7 @@ pub written-last_some : (d : Dialect) (p : Piece) (cs : List Placed) → parts c
 written-last_some d p cs all e = written-last (written d) p cs all e
 
 -- what a path of text answers and what changes it
-pub ruleset text_laws = (IsUtf8-from_is_utf8, is_utf8-from_IsUtf8, string-text, components-text, single-text, first-text, last-text, parent-text, parent-some, ancestors-text, file_name-text, file_name-some, file_stem-text, file_stem-some, file_prefix-text, file_prefix-some, extension-text, extension-some, stem_of-text, extension_of-text, stripped-text, stripped-some, common_ancestor-text, common_ancestor-some, popped-text, without_file_name-text, push-text, push_all-text, normal_text-text, simplified-text, with_file_name-text, with_extension-text, with_added_extension-text, converted-text, converted_checked-text, absolute_under-text, absolute_under-some)
+pub ruleset text_laws = (IsUtf8-from_is_utf8, is_utf8-from_IsUtf8, string-text, components-text, single-text, first-text, last-text, parent-text, parent-some, ancestors-text, file_name-text, file_name-some, file_stem-text, file_stem-some, file_prefix-text, file_prefix-some, extension-text, extension-some, stem_of-text, extension_of-text, stripped-text, stripped-some, common_ancestor-text, common_ancestor-some, popped-text, without_file_name-text, push-text, push_all-text, normal_text-text, simplified-text, with_file_name-text, with_extension-text, with_added_extension-text, converted-text, converted_checked-text, absolute_under-text, absolute_under-some, absolute_from-some)
 
 -- what is left of a reading
 pub ruleset reading_laws = (IsUtf8-from_is_utf8, is_utf8-from_IsUtf8, reading-starts, reading-front, reading-back, reading-slice, reading-first, reading-last, reading-first_some, reading-last_some, reading-parts, reading-texts, reading-above, reading-behind, written-starts, written-front, written-back, written-first_some, written-last_some)
