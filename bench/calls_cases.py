@@ -174,6 +174,8 @@ cases(
     (filled(b"a\\", 200, b"C:\\"), filled(b"a\\", 100, b"C:\\")), (filled(b"..\\", 90), filled(b"..\\", 60)),
 )
 cases("unix windows", "absolutize", (b"a/b", b"/home/u"), (b"../a//b", b"/home/u"), (b"/a/./b", b"/home/u"), (filled(b"../", 60), b"/home/u/src"))
+cases("unix windows", "absolutize_from", (b"a/b", b"/home/u"), (b"/a/./b", b"/home/u"))
+cases("windows", "absolutize_from", (br"a\..\b", br"C:\work"), (br"\a", br"C:\work"), (b"D:a", br"C:\work"), (br"..\a", b"\\\\?\\C:\\work"))
 cases("unix", "join", (b"/srv/files", b"a/b"), (b"/srv/files/", b"a"), (b"a", b"/b"), (b"", b"a"))
 cases("windows", "join", (rb"C:\srv\files", rb"a\b"), (rb"C:\a", rb"\b"), (rb"\\?\C:\srv\files", rb"a\..\b"), (rb"\\srv\share", b"a/b"), (b"", rb"C:a"))
 
