@@ -24,7 +24,7 @@ macro_rules! traits {
         /// let mut path = "/srv".into();
         #[doc = concat!($encoding, "::push(&mut path, \"a\".as_ref());")]
         #[doc = concat!("assert!(", $encoding, "::push_checked(&mut path, \"../..\".as_ref()).is_err());")]
-        /// assert_eq!(path, "/srv/a".to_owned().into_bytes());
+        /// assert_eq!(AsRef::<[u8]>::as_ref(&path), b"/srv/a");
         /// ```
         pub trait $Encoding: Dialect {
             /// The iterator over the components of a path.
@@ -55,12 +55,15 @@ macro_rules! traits {
             AsRef<$Slice>
             + Clone
             + Debug
+            + PartialEq
             + Eq
+            + PartialOrd
             + Ord
             + Iterator<Item = Self::Component>
-            + DoubleEndedIterator
+            + DoubleEndedIterator<Item = Self::Component>
             + FusedIterator
             + Sealed
+            + Sized
         {
             /// What it gives.
             type Component: $Component<'a>;
@@ -77,7 +80,9 @@ macro_rules! traits {
         }
 
         /// A component of a path.
-        pub trait $Component<'a>: AsRef<$Slice> + Clone + Debug + Eq + Ord + Sealed {
+        pub trait $Component<'a>:
+            AsRef<$Slice> + Clone + Debug + PartialEq + Eq + PartialOrd + Ord + Sealed
+        {
             /// How it is written.
             fn $as_slice(&self) -> &'a $Slice;
 

@@ -1513,7 +1513,7 @@ macro_rules! made {
         #[doc = concat!("let path = |text: &'static str| ", $make, "(text);")]
         #[doc = $example]
         /// ```
-        pub fn $name(&self $(, $other: impl AsRef<$Other>)?) -> $PathBuf {
+        pub fn $name$(<S: AsRef<$Other>>)?(&self $(, $other: S)?) -> $PathBuf {
             as_either!(self, $PathBuf, path => path.$name($($other)?))
         }
 
@@ -1529,7 +1529,7 @@ macro_rules! made {
         #[doc = concat!("let path = ", $make, "(\"a.txt\");")]
         #[doc = concat!("assert!(path.", stringify!($try_name), "(", $("\"", stringify!($other), "\"",)? ").is_ok());")]
         /// ```
-        pub fn $try_name(&self $(, $other: impl AsRef<$Other>)?) -> Result<$PathBuf, OutOfMemory> {
+        pub fn $try_name$(<S: AsRef<$Other>>)?(&self $(, $other: S)?) -> Result<$PathBuf, OutOfMemory> {
             Ok(as_either!(self, $PathBuf, path => path.$try_name($($other)?)?))
         }
     )*};
@@ -1547,7 +1547,7 @@ macro_rules! turned {
         #[doc = $use]
         ///
         #[doc = concat!("let path = ", $make, "(\"/a/b\").", stringify!($name), "();")]
-        #[doc = concat!("assert_eq!(path.as_ref(), AsRef::<[u8]>::as_ref(r\"", $turned, "\"));")]
+        #[doc = concat!("assert_eq!(AsRef::<[u8]>::as_ref(&path), br\"", $turned, "\");")]
         /// ```
         pub fn $name(&self) -> $PathBuf {
             $PathBuf::$Dialect(of_either!(self, path => path.$name()))
