@@ -1,8 +1,11 @@
 //! Memory that is refused, to this crate and to the library behind it: both ask the `malloc` and `realloc` below.
 
 use std::cell::Cell;
-use std::ffi::c_void;
+use std::ffi::{c_char, c_void, CStr};
+use std::mem::transmute;
 use std::process::Command;
+use std::ptr::null_mut;
+use std::sync::atomic::{AtomicPtr, Ordering};
 
 use typed_path::*;
 
@@ -13,8 +16,18 @@ thread_local! {
 }
 
 extern "C" {
-    fn __libc_malloc(size: usize) -> *mut c_void;
-    fn __libc_realloc(block: *mut c_void, size: usize) -> *mut c_void;
+    fn dlsym(handle: *mut c_void, name: *const c_char) -> *mut c_void;
+}
+
+/// The call of that name that the program would make without this file.
+fn behind(name: &CStr, found: &AtomicPtr<c_void>) -> *mut c_void {
+    /// `RTLD_NEXT`.
+    const BEHIND_THIS: *mut c_void = -1_isize as *mut c_void;
+    if found.load(Ordering::Relaxed).is_null() {
+        // The name ends in a NUL.
+        found.store(unsafe { dlsym(BEHIND_THIS, name.as_ptr()) }, Ordering::Relaxed);
+    }
+    found.load(Ordering::Relaxed)
 }
 
 fn is_granted() -> bool {
@@ -31,22 +44,27 @@ fn is_granted() -> bool {
     }
 }
 
+type Malloc = extern "C" fn(usize) -> *mut c_void;
+type Realloc = extern "C" fn(*mut c_void, usize) -> *mut c_void;
+
 #[no_mangle]
 extern "C" fn malloc(size: usize) -> *mut c_void {
     if !is_granted() {
-        return std::ptr::null_mut();
+        return null_mut();
     }
-    // It is handed on as it is.
-    unsafe { __libc_malloc(size) }
+    static FOUND: AtomicPtr<c_void> = AtomicPtr::new(null_mut());
+    // What is found has the type of this one.
+    unsafe { transmute::<*mut c_void, Malloc>(behind(c"malloc", &FOUND))(size) }
 }
 
 #[no_mangle]
 extern "C" fn realloc(block: *mut c_void, size: usize) -> *mut c_void {
     if !is_granted() {
-        return std::ptr::null_mut();
+        return null_mut();
     }
-    // It is handed on as it is.
-    unsafe { __libc_realloc(block, size) }
+    static FOUND: AtomicPtr<c_void> = AtomicPtr::new(null_mut());
+    // What is found has the type of this one.
+    unsafe { transmute::<*mut c_void, Realloc>(behind(c"realloc", &FOUND))(block, size) }
 }
 
 /// Makes a call with all requests from the first one on refused, then all from the second one on, and so on, until it
