@@ -2,7 +2,6 @@
 
 use alloc::boxed::Box;
 
-use crate::errors::OutOfMemory;
 use crate::ffi::{self, or_end};
 
 /// The key of a path: bytes that equal paths of one dialect share, and that no other path has. So to compare two keys
@@ -25,11 +24,7 @@ pub struct Key {
 
 impl Key {
     pub(crate) fn new(dialect: u32, path: &[u8]) -> Self {
-        or_end(Self::try_new(dialect, path))
-    }
-
-    pub(crate) fn try_new(dialect: u32, path: &[u8]) -> Result<Self, OutOfMemory> {
-        Ok(Key { dialect, words: ffi::key_words(dialect, path)?.into_boxed_slice() })
+        Key { dialect, words: or_end(ffi::key_words(dialect, path)).into_boxed_slice() }
     }
 
     /// The bytes of the key. A path of each dialect may have the same.

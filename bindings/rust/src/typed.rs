@@ -61,7 +61,7 @@ macro_rules! typed {
         $OneIter:ident $OneAncestors:ident,
         $Slice:ty, $Owned:ty, $as_slice:ident $into_owned:ident $as_normal:ident, $use:literal
     ) => {
-        /// A path of either dialect, borrowed.
+        /// A path of either dialect, borrowed. One of Unix is never equal to one of Windows, and comes before it.
         ///
         /// ```
         #[doc = $use]

@@ -22,6 +22,9 @@ macro_rules! path {
     ) => {
         #[doc = concat!("A path of one dialect, borrowed: a slice by another name. [`", stringify!($PathBuf), "`] owns its own.")]
         ///
+        /// `==`, `<` and hashing go by the components: separators, doubled or not, dots that vanish and the case of a
+        /// drive do not count, and the case of names does.
+        ///
         /// ```
         #[doc = $use]
         ///
