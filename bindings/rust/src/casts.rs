@@ -7,15 +7,15 @@ use alloc::vec::Vec;
 /// so both are laid out alike, and what is true of the one pointer is true of the other.
 macro_rules! renamed {
     (&$pointer:expr => $from:ty as $to:ty) => {
-        // The reference is renamed, and lives no longer.
+        // SAFETY: the reference is renamed, and lives no longer.
         unsafe { &*($pointer as *const $from as *const $to) }
     };
     ($Owner:ident, $owned:expr => $from:ty as $to:ty) => {
-        // The owner gives the pointer out, and another takes it over by its new name.
+        // SAFETY: the owner gives the pointer out, and another takes it over by its new name.
         unsafe { $Owner::from_raw($Owner::into_raw($owned) as *mut $to) }
     };
     (shared $Owner:ident, $owned:expr => $from:ty as $to:ty) => {
-        // The owner gives the pointer out, and another takes it over by its new name.
+        // SAFETY: the owner gives the pointer out, and another takes it over by its new name.
         unsafe { $Owner::from_raw($Owner::into_raw($owned) as *const $to) }
     };
 }
@@ -24,14 +24,14 @@ pub(crate) use renamed;
 
 /// The text that a call made of texts.
 pub(crate) fn made_text(made: Vec<u8>) -> String {
-    // Every call that makes a path promises: where the texts are UTF-8, so is the answer.
+    // SAFETY: every call that makes a path promises: where the texts are UTF-8, so is the answer.
     unsafe { String::from_utf8_unchecked(made) }
 }
 
 /// Has a call change the bytes of a text, to what it makes of texts.
 pub(crate) fn change_text<R>(text: &mut String, change: impl FnOnce(&mut Vec<u8>) -> R) -> R {
-    // Every call that makes a path promises: where the texts are UTF-8, so is the answer. One that refuses leaves the
-    // bytes as they were.
+    // SAFETY: every call that makes a path promises: where the texts are UTF-8, so is the answer. One that refuses
+    // leaves the bytes as they were.
     change(unsafe { text.as_mut_vec() })
 }
 
@@ -66,7 +66,7 @@ mod unchecked {
         /// assert_eq!(path, Utf8UnixPath::new("/a"));
         /// ```
         pub unsafe fn from_bytes_path_unchecked<U: Encoding>(path: &Path<U>) -> &Self {
-            // The caller says that the bytes are UTF-8.
+            // SAFETY: the caller says that the bytes are UTF-8.
             Self::new(unsafe { core::str::from_utf8_unchecked(path.as_bytes()) })
         }
     }
@@ -86,7 +86,7 @@ mod unchecked {
         /// assert_eq!(path, Utf8UnixPath::new("/a"));
         /// ```
         pub unsafe fn from_bytes_path_buf_unchecked<U: Encoding>(path: PathBuf<U>) -> Self {
-            // The caller says that the bytes are UTF-8.
+            // SAFETY: the caller says that the bytes are UTF-8.
             Self::own(unsafe { String::from_utf8_unchecked(path.inner) })
         }
     }
@@ -110,7 +110,7 @@ mod unchecked {
                 UnixComponent::RootDir => Self::RootDir,
                 UnixComponent::CurDir => Self::CurDir,
                 UnixComponent::ParentDir => Self::ParentDir,
-                // The caller says that the bytes are UTF-8.
+                // SAFETY: the caller says that the bytes are UTF-8.
                 UnixComponent::Normal(name) => Self::Normal(unsafe { core::str::from_utf8_unchecked(name) }),
             }
         }
@@ -131,7 +131,7 @@ mod unchecked {
         /// assert_eq!(prefix, Utf8WindowsPrefix::DeviceNS("COM1"));
         /// ```
         pub unsafe fn from_utf8_unchecked(prefix: &WindowsPrefix<'a>) -> Self {
-            // The caller says that the names are UTF-8.
+            // SAFETY: the caller says that the names are UTF-8.
             unsafe { to_text!(prefix prefix, core::str::from_utf8_unchecked) }
         }
     }
@@ -152,7 +152,7 @@ mod unchecked {
         /// assert_eq!(prefix.as_str(), "C:");
         /// ```
         pub unsafe fn from_utf8_unchecked(component: &WindowsPrefixComponent<'a>) -> Self {
-            // The caller says that all of it is UTF-8.
+            // SAFETY: the caller says that all of it is UTF-8.
             unsafe {
                 Self {
                     raw: core::str::from_utf8_unchecked(component.raw),
@@ -177,7 +177,7 @@ mod unchecked {
         /// assert_eq!(name, Utf8WindowsComponent::Normal("Users"));
         /// ```
         pub unsafe fn from_utf8_unchecked(component: &WindowsComponent<'a>) -> Self {
-            // The caller says that the bytes are UTF-8.
+            // SAFETY: the caller says that the bytes are UTF-8.
             unsafe {
                 to_text!(
                     component component,

@@ -228,20 +228,20 @@ extern "C" {
 /// The version of the library that is linked, as 10000 for its first part, 100 for its second and 1 for its third.
 #[cfg(test)]
 fn version() -> u32 {
-    // It is handed nothing.
+    // SAFETY: it is handed nothing.
     unsafe { typed_path_version() }
 }
 
 /// Whether this processor can run the library.
 pub(crate) fn runs_here() -> bool {
-    // It is handed nothing, and runs on each x86-64.
+    // SAFETY: it is handed nothing, and runs on each x86-64.
     unsafe { typed_path_runs_here() }
 }
 
 /// The dialect that a text looks like.
 #[inline]
 pub(crate) fn derive(path: &[u8]) -> u32 {
-    // The pointer is that of a slice, with its length.
+    // SAFETY: the pointer is that of a slice, with its length.
     unsafe { typed_path_derive(path.as_ptr(), path.len()) }
 }
 
@@ -251,7 +251,7 @@ macro_rules! parts {
         #[inline]
         pub(crate) fn $name(dialect: u32, path: &[u8] $(, $other: &[u8])?) -> Option<Range<usize>> {
             let mut span = Span::EMPTY;
-            // The pointers are those of slices, with their lengths, and of a local.
+            // SAFETY: the pointers are those of slices, with their lengths, and of a local.
             let status = unsafe {
                 $call(dialect, path.as_ptr(), path.len() $(, $other.as_ptr(), $other.len())?, &mut span)
             };
@@ -277,7 +277,7 @@ macro_rules! questions {
         #[inline]
         pub(crate) fn $name(dialect: u32, path: &[u8] $(, $other: &[u8])?) -> bool {
             let mut answer = false;
-            // The pointers are those of slices, with their lengths, and of a local.
+            // SAFETY: the pointers are those of slices, with their lengths, and of a local.
             unsafe {
                 $call(dialect, path.as_ptr(), path.len() $(, $other.as_ptr(), $other.len())?, &mut answer)
             };
@@ -304,7 +304,7 @@ questions! {
 #[inline]
 pub(crate) fn compare(dialect: u32, path: &[u8], other: &[u8]) -> Ordering {
     let mut order = 0;
-    // The pointers are those of slices, with their lengths, and of a local.
+    // SAFETY: the pointers are those of slices, with their lengths, and of a local.
     unsafe {
         typed_path_compare(dialect, path.as_ptr(), path.len(), other.as_ptr(), other.len(), &mut order)
     };
@@ -317,9 +317,8 @@ macro_rules! steps {
         #[inline]
         pub(crate) fn $name(dialect: u32, path: &[u8], reading: &mut Reading) -> Option<Placed> {
             let mut component = Placed::NONE;
-            // The pointers are those of a slice, with its length, of the numbers, and of a local.
-            let status =
-                unsafe { $call(dialect, path.as_ptr(), path.len(), reading, &mut component) };
+            // SAFETY: the pointers are those of a slice, with its length, of the numbers, and of a local.
+            let status = unsafe { $call(dialect, path.as_ptr(), path.len(), reading, &mut component) };
             (status == status::DONE).then_some(component)
         }
     )*};
@@ -333,7 +332,7 @@ steps! {
 /// Where the names of the prefix stand; the second is empty where there is but one.
 pub(crate) fn prefix_names(dialect: u32, path: &[u8]) -> Option<(Range<usize>, Range<usize>)> {
     let (mut first, mut second) = (Span::EMPTY, Span::EMPTY);
-    // The pointers are those of a slice, with its length, and of two locals.
+    // SAFETY: the pointers are those of a slice, with its length, and of two locals.
     let status =
         unsafe { typed_path_prefix_names(dialect, path.as_ptr(), path.len(), &mut first, &mut second) };
     (status == status::DONE).then(|| (first.range(), second.range()))
@@ -344,7 +343,7 @@ pub(crate) fn prefix_names(dialect: u32, path: &[u8]) -> Option<(Range<usize>, R
 #[inline]
 fn push_place(dialect: u32, path: &[u8], other: &[u8]) -> Option<(usize, Option<u8>)> {
     let mut place = Place { kept: 0, separator: 0 };
-    // The pointers are those of slices, with their lengths, and of a local.
+    // SAFETY: the pointers are those of slices, with their lengths, and of a local.
     let status = unsafe {
         typed_path_push_place(dialect, path.as_ptr(), path.len(), other.as_ptr(), other.len(), &mut place)
     };
@@ -354,7 +353,7 @@ fn push_place(dialect: u32, path: &[u8], other: &[u8]) -> Option<(usize, Option<
 /// What a checked call refuses a path for.
 #[inline]
 pub(crate) fn check(dialect: u32, path: &[u8]) -> Result<(), CheckedPathError> {
-    // The pointer is that of a slice, with its length.
+    // SAFETY: the pointer is that of a slice, with its length.
     match unsafe { typed_path_check(dialect, path.as_ptr(), path.len()) } {
         status::DONE => Ok(()),
         refused => Err(fault(refused)),
@@ -364,7 +363,7 @@ pub(crate) fn check(dialect: u32, path: &[u8]) -> Result<(), CheckedPathError> {
 /// Why a path is not portable.
 #[inline]
 pub(crate) fn check_portable(dialect: u32, path: &[u8]) -> Result<(), PortableError> {
-    // The pointer is that of a slice, with its length.
+    // SAFETY: the pointer is that of a slice, with its length.
     match unsafe { typed_path_check_portable(dialect, path.as_ptr(), path.len()) } {
         status::DONE => Ok(()),
         refused => Err(reason(refused)),
@@ -429,7 +428,7 @@ pub(crate) const STATUS_OF_MEMORY: u32 = status::OUT_OF_MEMORY;
 pub(crate) fn with_status_text<R>(status: u32, then: impl FnOnce(&str) -> R) -> R {
     const BOUND: usize = 64;
     let put = |out, size, len: &mut usize| {
-        // The room is that of a local, with its size.
+        // SAFETY: the room is that of a local, with its size.
         unsafe { typed_path_status_text(status, out, size, len) }
     };
     into_room::<BOUND, _>(put, |text| then(core::str::from_utf8(text).unwrap_or_default()))
@@ -444,7 +443,7 @@ fn into_room<const N: usize, R>(
     let mut room = MaybeUninit::<[u8; N]>::uninit();
     let mut len = 0;
     match put(room.as_mut_ptr().cast(), N, &mut len) {
-        // `DONE` says that the first `len` bytes were put, and that these are no more than the room has.
+        // SAFETY: `DONE` says that the first `len` bytes were put, and that these are no more than the room has.
         status::DONE => Ok(then(unsafe { core::slice::from_raw_parts(room.as_ptr().cast(), len) })),
         told => Err(told),
     }
@@ -460,7 +459,7 @@ fn made(bound: usize, put: impl FnOnce(Out, usize, &mut usize) -> u32) -> Result
     let mut len = 0;
     match put(out.as_mut_ptr(), out.capacity(), &mut len) {
         status::DONE => {
-            // `DONE` says that the first `len` bytes were put, and that these are no more than the room has.
+            // SAFETY: `DONE` says that the first `len` bytes were put, and that these are no more than the room has.
             unsafe { out.set_len(len) };
             Ok(out)
         }
@@ -526,7 +525,7 @@ macro_rules! makers {
     ($($name:ident $($change:ident)? = $call:ident, $more:literal -> $Refusal:ty;)*) => {$(
         #[inline]
         pub(crate) fn $name(dialect: u32, path: &[u8], other: &[u8]) -> Result<Vec<u8>, $Refusal> {
-            // The pointers are those of slices, with their lengths, and of new memory.
+            // SAFETY: the pointers are those of slices, with their lengths, and of new memory.
             made(bound(path, other, $more), |out, size, len| unsafe {
                 $call(dialect, path.as_ptr(), path.len(), other.as_ptr(), other.len(), out, size, len)
             })
@@ -536,7 +535,7 @@ macro_rules! makers {
         $(
             pub(crate) fn $change(dialect: u32, path: &mut Vec<u8>, other: &[u8]) -> Result<(), OutOfMemory> {
                 let (text, text_len) = (path.as_ptr(), path.len());
-                // The pointers are those of slices, with their lengths, and of a room of its own. The path is
+                // SAFETY: the pointers are those of slices, with their lengths, and of a room of its own. The path is
                 // changed when the call is over.
                 let put = |out, size, len: &mut usize| unsafe {
                     $call(dialect, text, text_len, other.as_ptr(), other.len(), out, size, len)
@@ -570,7 +569,7 @@ macro_rules! makers_of_one {
     ($($name:ident = $call:ident ($($other:ident)?) -> $Refusal:ty;)*) => {$(
         #[inline]
         pub(crate) fn $name(dialect: u32, path: &[u8] $(, $other: u32)?) -> Result<Vec<u8>, $Refusal> {
-            // The pointers are those of a slice, with its length, and of new memory.
+            // SAFETY: the pointers are those of a slice, with its length, and of new memory.
             made(bound(path, b"", 2), |out, size, len| unsafe {
                 $call(dialect, path.as_ptr(), path.len() $(, $other)?, out, size, len)
             })
@@ -589,7 +588,7 @@ makers_of_one! {
 /// The path that leads from a base to a path; none where there is none.
 pub(crate) fn relative_to(dialect: u32, path: &[u8], base: &[u8]) -> Result<Option<Vec<u8>>, OutOfMemory> {
     let bound = bound(base, base, 4).saturating_add(path.len());
-    // The pointers are those of slices, with their lengths, and of new memory.
+    // SAFETY: the pointers are those of slices, with their lengths, and of new memory.
     let made = made(bound, |out, size, len| unsafe {
         typed_path_relative_to(dialect, path.as_ptr(), path.len(), base.as_ptr(), base.len(), out, size, len)
     });
@@ -605,7 +604,7 @@ pub(crate) fn relative_to(dialect: u32, path: &[u8], base: &[u8]) -> Result<Opti
 pub(crate) fn absolutize(
     dialect: u32, path: &[u8], directory: &[u8],
 ) -> Result<Option<Vec<u8>>, OutOfMemory> {
-    // The pointers are those of slices, with their lengths, and of new memory.
+    // SAFETY: the pointers are those of slices, with their lengths, and of new memory.
     let made = made(bound(path, directory, 4), |out, size, len| unsafe {
         typed_path_absolutize(
             dialect,
@@ -685,7 +684,7 @@ extensions! {
 #[inline]
 pub(crate) fn with_key_words<R>(dialect: u32, path: &[u8], then: impl FnOnce(&[u8]) -> R) -> R {
     if key_bound(path) <= KEY_ROOM {
-        // The pointers are those of a slice, with its length, and of a room of the bound.
+        // SAFETY: the pointers are those of a slice, with its length, and of a room of the bound.
         let put = |out, size, len: &mut usize| unsafe {
             typed_path_key_words(dialect, path.as_ptr(), path.len(), out, size, len)
         };
@@ -704,7 +703,7 @@ fn key_bound(path: &[u8]) -> usize {
 
 /// The words of a path's key, in new memory of their length.
 pub(crate) fn key_words(dialect: u32, path: &[u8]) -> Result<Vec<u8>, OutOfMemory> {
-    // The pointers are those of a slice, with its length, and of the room that is handed in.
+    // SAFETY: the pointers are those of a slice, with its length, and of the room that is handed in.
     let put = |out, size, len: &mut usize| unsafe {
         typed_path_key_words(dialect, path.as_ptr(), path.len(), out, size, len)
     };

@@ -32,7 +32,7 @@
 //! **What is proved** is the library behind the calls of its header for C, from which every answer comes. The types of
 //! this crate, what it lends and copies, and its `unsafe` steps are not proved.
 #![cfg_attr(not(feature = "std"), no_std)]
-#![deny(missing_docs, unsafe_op_in_unsafe_fn)]
+#![deny(missing_docs, unsafe_op_in_unsafe_fn, clippy::undocumented_unsafe_blocks)]
 
 extern crate alloc;
 

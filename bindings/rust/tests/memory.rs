@@ -24,7 +24,7 @@ fn behind(name: &CStr, found: &AtomicPtr<c_void>) -> *mut c_void {
     /// `RTLD_NEXT`.
     const BEHIND_THIS: *mut c_void = -1_isize as *mut c_void;
     if found.load(Ordering::Relaxed).is_null() {
-        // The name ends in a NUL.
+        // SAFETY: the name ends in a NUL.
         found.store(unsafe { dlsym(BEHIND_THIS, name.as_ptr()) }, Ordering::Relaxed);
     }
     found.load(Ordering::Relaxed)
@@ -53,7 +53,7 @@ extern "C" fn malloc(size: usize) -> *mut c_void {
         return null_mut();
     }
     static FOUND: AtomicPtr<c_void> = AtomicPtr::new(null_mut());
-    // What is found has the type of this one.
+    // SAFETY: what is found has the type of this one.
     unsafe { transmute::<*mut c_void, Malloc>(behind(c"malloc", &FOUND))(size) }
 }
 
@@ -63,7 +63,7 @@ extern "C" fn realloc(block: *mut c_void, size: usize) -> *mut c_void {
         return null_mut();
     }
     static FOUND: AtomicPtr<c_void> = AtomicPtr::new(null_mut());
-    // What is found has the type of this one.
+    // SAFETY: what is found has the type of this one.
     unsafe { transmute::<*mut c_void, Realloc>(behind(c"realloc", &FOUND))(block, size) }
 }
 
