@@ -101,10 +101,10 @@ impl Reading {
         self.from..self.to
     }
 
-    /// Whether nothing was taken from the front.
+    /// Whether nothing was taken from the front, so that the slice left is a path that reads as what is left.
     #[inline]
     pub fn has_its_front(&self) -> bool {
-        self.stage == 0
+        self.from == 0
     }
 }
 
