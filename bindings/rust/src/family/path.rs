@@ -158,7 +158,7 @@ macro_rules! path {
             ///
             /// assert!(Unix::new("a:b").is_valid());
             /// assert!(!Unix::new("a\0b").is_valid());
-            /// assert!(!Windows::new("a:b").is_valid());
+            /// assert!(!Windows::new("a?b").is_valid());
             /// assert!(!Windows::new("con.txt").is_valid());
             /// ```
             #[inline]
@@ -817,7 +817,7 @@ macro_rules! path {
             #[doc = $use]
             /// use typed_path::CheckedPathError;
             ///
-            /// let refused = Unix::new("/a/b:c").with_windows_encoding_checked();
+            /// let refused = Unix::new("/a/what?").with_windows_encoding_checked();
             /// assert_eq!(refused, Err(CheckedPathError::InvalidFilename));
             /// ```
             #[inline]
