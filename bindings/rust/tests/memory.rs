@@ -30,6 +30,11 @@ fn behind(name: &CStr, found: &AtomicPtr<c_void>) -> *mut c_void {
     found.load(Ordering::Relaxed)
 }
 
+/// Whether valgrind runs the program: then its `malloc` stands in the place of the one below, and refuses nothing.
+fn is_in_valgrind() -> bool {
+    std::env::var_os("LD_PRELOAD").is_some_and(|names| names.to_string_lossy().contains("vgpreload"))
+}
+
 fn is_granted() -> bool {
     match GRANTED.get() {
         usize::MAX => true,
@@ -85,6 +90,9 @@ fn refused_in_turn<T>(name: &str, mut call: impl FnMut() -> T, is_refusal: impl 
 
 #[test]
 fn each_request_is_refused_in_turn() {
+    if is_in_valgrind() {
+        return;
+    }
     macro_rules! asked {
         ($($call:expr),*) => {
             [$(refused_in_turn(stringify!($call), || $call, |answer| {
@@ -126,6 +134,9 @@ fn each_request_is_refused_in_turn() {
 /// A refused change leaves the path as it was.
 #[test]
 fn refused_changes_leave_the_path() {
+    if is_in_valgrind() {
+        return;
+    }
     let change = |base: &str, change: &dyn Fn(&mut WindowsPathBuf) -> bool| {
         let requests = refused_in_turn(
             base,
@@ -159,6 +170,9 @@ fn refused_changes_leave_the_path() {
 /// The calls whose name does not begin with `try_` end the program, as those of std do.
 #[test]
 fn other_calls_end_the_program() {
+    if is_in_valgrind() {
+        return;
+    }
     const NUMBER: &str = "TYPED_PATH_REFUSED";
     if let Some(granted) = std::env::var(NUMBER).ok().and_then(|number| number.parse().ok()) {
         GRANTED.set(granted);
