@@ -96,6 +96,18 @@ pub enum JoinError {
     Checked(CheckedPathError),
 }
 
+impl From<PortableError> for JoinError {
+    fn from(reason: PortableError) -> Self {
+        Self::Portable(reason)
+    }
+}
+
+impl From<CheckedPathError> for JoinError {
+    fn from(fault: CheckedPathError) -> Self {
+        Self::Checked(fault)
+    }
+}
+
 impl fmt::Display for JoinError {
     fn fmt(&self, f: &mut fmt::Formatter<'_>) -> fmt::Result {
         match self {
