@@ -164,6 +164,21 @@ macro_rules! typed {
                 as_either!(self, $PathBuf, path => path.to_path_buf())
             }
 
+            /// The same; refused memory is an answer.
+            ///
+            /// # Errors
+            ///
+            /// Memory was refused.
+            ///
+            /// ```
+            #[doc = $use]
+            ///
+            /// assert!(Typed::unix("/a").try_to_path_buf().is_ok());
+            /// ```
+            pub fn try_to_path_buf(&self) -> Result<$PathBuf, OutOfMemory> {
+                Ok(as_either!(self, $PathBuf, path => path.try_to_path_buf()?))
+            }
+
             /// The path without its last component. None of an empty path, a root, or a prefix but a drive.
             ///
             /// ```
@@ -642,8 +657,14 @@ macro_rules! typed {
             }
         }
 
-        asked!(['a] $Path<'a>, $Path, $PathBuf, $Unix, $Windows, $Slice, $as_slice, "Typed::unix", $use);
-        asked!([] $PathBuf, $Path, $PathBuf, $Unix, $Windows, $Slice, $as_slice, "TypedBuf::from_unix", $use);
+        asked!(
+            ['a] $Path<'a>, $Path, $PathBuf, $Unix $UnixEncoding, $Windows $WindowsEncoding, $Slice, $as_slice,
+            "Typed::unix", $use
+        );
+        asked!(
+            [] $PathBuf, $Path, $PathBuf, $Unix $UnixEncoding, $Windows $WindowsEncoding, $Slice, $as_slice,
+            "TypedBuf::from_unix", $use
+        );
 
         impl<'a> From<&'a str> for $Path<'a> {
             #[inline]
@@ -1074,8 +1095,8 @@ macro_rules! of_one_dialect {
 /// What borrowed and owned paths are asked alike. `$make` is how an example makes one of Unix.
 macro_rules! asked {
     (
-        [$($lt:lifetime)?] $Own:ty, $Path:ident, $PathBuf:ident, $Unix:ident, $Windows:ident, $Slice:ty, $as_slice:ident,
-        $make:literal, $use:literal
+        [$($lt:lifetime)?] $Own:ty, $Path:ident, $PathBuf:ident, $Unix:ident $UnixEncoding:ident,
+        $Windows:ident $WindowsEncoding:ident, $Slice:ty, $as_slice:ident, $make:literal, $use:literal
     ) => {
         /// What both are asked.
         impl$(<$lt>)? $Own {
@@ -1377,8 +1398,12 @@ macro_rules! asked {
 
             turned! {
                 $PathBuf, $make, $use,
-                "Unix", Unix, "/a/b", with_unix_encoding, with_unix_encoding_checked;
-                "Windows", Windows, "\\a\\b", with_windows_encoding, with_windows_encoding_checked;
+                "Unix", Unix $UnixEncoding, "/a/b",
+                with_unix_encoding try_with_unix_encoding,
+                with_unix_encoding_checked try_with_unix_encoding_checked;
+                "Windows", Windows $WindowsEncoding, "\\a\\b",
+                with_windows_encoding try_with_windows_encoding,
+                with_windows_encoding_checked try_with_windows_encoding_checked;
             }
         }
 
@@ -1539,7 +1564,10 @@ macro_rules! made {
 macro_rules! turned {
     (
         $PathBuf:ident, $make:literal, $use:literal,
-        $($dialect:literal, $Dialect:ident, $turned:literal, $name:ident, $checked:ident;)*
+        $(
+            $dialect:literal, $Dialect:ident $Encoding:ident, $turned:literal,
+            $name:ident $try_name:ident, $checked:ident $try_checked:ident;
+        )*
     ) => {$(
         #[doc = concat!("The path as it is written on ", $dialect, "; a copy where it is of that dialect.")]
         ///
@@ -1551,6 +1579,21 @@ macro_rules! turned {
         /// ```
         pub fn $name(&self) -> $PathBuf {
             $PathBuf::$Dialect(of_either!(self, path => path.$name()))
+        }
+
+        #[doc = concat!("[`", stringify!($name), "`](Self::", stringify!($name), "); refused memory is an answer.")]
+        ///
+        /// # Errors
+        ///
+        /// Memory was refused.
+        ///
+        /// ```
+        #[doc = $use]
+        ///
+        #[doc = concat!("assert!(", $make, "(\"a\").", stringify!($try_name), "().is_ok());")]
+        /// ```
+        pub fn $try_name(&self) -> Result<$PathBuf, OutOfMemory> {
+            Ok($PathBuf::$Dialect(of_either!(self, path => path.try_with_encoding::<$Encoding>()?)))
         }
 
         #[doc = concat!("The path as it is written on ", $dialect, ", by checked pushes, in its own dialect too.")]
@@ -1566,6 +1609,21 @@ macro_rules! turned {
         /// ```
         pub fn $checked(&self) -> Result<$PathBuf, CheckedPathError> {
             Ok($PathBuf::$Dialect(of_either!(self, path => path.$checked()?)))
+        }
+
+        #[doc = concat!("[`", stringify!($checked), "`](Self::", stringify!($checked), "); refused memory is an answer.")]
+        ///
+        /// # Errors
+        ///
+        /// What its twin refuses with, or memory, whichever is met first.
+        ///
+        /// ```
+        #[doc = $use]
+        ///
+        #[doc = concat!("assert!(", $make, "(\"a\").", stringify!($try_checked), "().is_ok());")]
+        /// ```
+        pub fn $try_checked(&self) -> Result<$PathBuf, TryError<CheckedPathError>> {
+            Ok($PathBuf::$Dialect(of_either!(self, path => path.try_with_encoding_checked::<$Encoding>()?)))
         }
     )*};
 }
