@@ -126,6 +126,7 @@ extern "C" {
         dialect: u32, path: Text, path_len: usize, other: Text, other_len: usize, out: Out, out_size: usize,
         len: *mut usize,
     ) -> u32;
+    #[cfg(test)]
     fn typed_path_join_checked(
         dialect: u32, path: Text, path_len: usize, other: Text, other_len: usize, out: Out, out_size: usize,
         len: *mut usize,
@@ -316,6 +317,10 @@ macro_rules! steps {
     ($($name:ident = $call:ident;)*) => {$(
         #[inline]
         pub(crate) fn $name(dialect: u32, path: &[u8], reading: &mut Reading) -> Option<Placed> {
+            // No component is empty, so none is left of an empty slice, and no call need say so.
+            if reading.from == reading.to {
+                return None;
+            }
             let mut component = Placed::NONE;
             // SAFETY: the pointers are those of a slice, with its length, of the numbers, and of a local.
             let status = unsafe { $call(dialect, path.as_ptr(), path.len(), reading, &mut component) };
@@ -556,7 +561,6 @@ const ROOM: usize = 256;
 
 makers! {
     merge merge_into = typed_path_join, 4 -> OutOfMemory;
-    join_checked = typed_path_join_checked, 4 -> TryError<CheckedPathError>;
     join_portable = typed_path_join_portable, 4 -> TryError<JoinError>;
     resolve_checked = typed_path_resolve_checked, 5 -> TryError<CheckedPathError>;
     with_file_name set_file_name = typed_path_with_file_name, 4 -> OutOfMemory;
@@ -652,8 +656,17 @@ pub(crate) fn push(dialect: u32, path: &mut Vec<u8>, other: &[u8]) -> Result<(),
     Ok(())
 }
 
-/// The same where `check` lets the other path through: what `typed_path_join_checked` makes, by two calls that
-/// take no memory.
+/// A path with another pushed onto it that `check` lets through: what `typed_path_join_checked` makes, by two calls
+/// that take no memory.
+#[inline]
+pub(crate) fn join_checked(
+    dialect: u32, path: &[u8], other: &[u8],
+) -> Result<Vec<u8>, TryError<CheckedPathError>> {
+    check(dialect, other).map_err(TryError::Refused)?;
+    Ok(join(dialect, path, other)?)
+}
+
+/// The same, in the memory of the path.
 #[inline]
 pub(crate) fn push_checked(
     dialect: u32, path: &mut Vec<u8>, other: &[u8],
@@ -737,10 +750,68 @@ fn out_of_memory() -> ! {
 
 #[cfg(test)]
 mod tests {
+    use super::*;
+
     #[test]
     fn the_archive_has_the_version_of_the_package() {
         let part = |text: &str| text.parse::<u32>().unwrap();
         let [major, minor] = [env!("CARGO_PKG_VERSION_MAJOR"), env!("CARGO_PKG_VERSION_MINOR")].map(part);
-        assert_eq!(super::version() / 100, major * 100 + minor);
+        assert_eq!(version() / 100, major * 100 + minor);
+    }
+
+    /// The checked join of this crate, which asks two calls, is that of the library, which is one.
+    #[test]
+    fn two_calls_make_the_checked_join() {
+        let paths = [
+            "",
+            ".",
+            "a",
+            "..",
+            "/",
+            "a/..",
+            "a/../..",
+            "/a",
+            r"\a",
+            r"C:\a",
+            "C:a",
+            "C:",
+            "con",
+            "a\0",
+            r"..\x",
+            "a/b",
+            r"\\s\h",
+            r"\\s",
+            r"\\?\C:\a",
+            r"\\?\C:",
+            r"\\?\UNC\s\h\",
+            "//?/C:/a",
+            r"a\.\b",
+            "a/",
+            "?",
+        ];
+        for dialect in [UNIX, WINDOWS] {
+            for path in paths.map(str::as_bytes) {
+                for other in paths.map(str::as_bytes) {
+                    // SAFETY: the pointers are those of slices, with their lengths, and of new memory.
+                    let one = made(bound(path, other, 4), |out, size, len| unsafe {
+                        typed_path_join_checked(
+                            dialect,
+                            path.as_ptr(),
+                            path.len(),
+                            other.as_ptr(),
+                            other.len(),
+                            out,
+                            size,
+                            len,
+                        )
+                    });
+                    assert_eq!(
+                        join_checked(dialect, path, other),
+                        one.map_err(refusal),
+                        "{path:?} {other:?}"
+                    );
+                }
+            }
+        }
     }
 }

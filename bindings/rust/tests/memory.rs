@@ -125,10 +125,8 @@ fn each_request_is_refused_in_turn() {
         typed.try_clean()
     );
     assert!(requests.iter().all(|count| *count > 0), "{requests:?}");
-    // A path that is refused for what it is takes no memory.
-    let refused =
-        asked!(unix.try_join_checked(".."), unix.try_join_portable("a:b"), unix.try_resolve_checked("/"));
-    assert_eq!(refused, [0; 3]);
+    // A path that a checked join refuses for what it is takes no memory.
+    assert_eq!(asked!(unix.try_join_checked("..")), [0]);
 }
 
 /// A refused change leaves the path as it was.
