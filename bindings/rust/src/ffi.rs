@@ -172,6 +172,22 @@ extern "C" {
         dialect: u32, path: Text, path_len: usize, directory: Text, directory_len: usize, out: Out,
         out_size: usize, len: *mut usize,
     ) -> u32;
+    fn typed_path_absolutize_from(
+        dialect: u32, path: Text, path_len: usize, other: u32, directory: Text, directory_len: usize,
+        out: Out, out_size: usize, len: *mut usize,
+    ) -> u32;
+    fn typed_path_to_ascii_lowercase(
+        dialect: u32, path: Text, path_len: usize, out: Out, out_size: usize, len: *mut usize,
+    ) -> u32;
+    fn typed_path_starts_with_ignore_ascii_case(
+        dialect: u32, path: Text, path_len: usize, base: Text, base_len: usize, answer: *mut bool,
+    ) -> u32;
+    fn typed_path_equal_ignore_ascii_case(
+        dialect: u32, path: Text, path_len: usize, other: Text, other_len: usize, answer: *mut bool,
+    ) -> u32;
+    fn typed_path_compare_ignore_ascii_case(
+        dialect: u32, path: Text, path_len: usize, other: Text, other_len: usize, order: *mut i32,
+    ) -> u32;
     fn typed_path_parent(dialect: u32, path: Text, path_len: usize, span: *mut Span) -> u32;
     fn typed_path_file_name(dialect: u32, path: Text, path_len: usize, span: *mut Span) -> u32;
     fn typed_path_file_stem(dialect: u32, path: Text, path_len: usize, span: *mut Span) -> u32;
@@ -299,6 +315,8 @@ questions! {
     ends_with = typed_path_ends_with (end);
     is_within = typed_path_is_within (base);
     equal = typed_path_equal (other);
+    starts_with_ignore_ascii_case = typed_path_starts_with_ignore_ascii_case (base);
+    equal_ignore_ascii_case = typed_path_equal_ignore_ascii_case (other);
 }
 
 /// The order of two paths.
@@ -308,6 +326,24 @@ pub(crate) fn compare(dialect: u32, path: &[u8], other: &[u8]) -> Ordering {
     // SAFETY: the pointers are those of slices, with their lengths, and of a local.
     unsafe {
         typed_path_compare(dialect, path.as_ptr(), path.len(), other.as_ptr(), other.len(), &mut order)
+    };
+    order.cmp(&0)
+}
+
+/// The order of two paths in lower case.
+#[inline]
+pub(crate) fn compare_ignore_ascii_case(dialect: u32, path: &[u8], other: &[u8]) -> Ordering {
+    let mut order = 0;
+    // SAFETY: the pointers are those of slices, with their lengths, and of a local.
+    unsafe {
+        typed_path_compare_ignore_ascii_case(
+            dialect,
+            path.as_ptr(),
+            path.len(),
+            other.as_ptr(),
+            other.len(),
+            &mut order,
+        )
     };
     order.cmp(&0)
 }
@@ -585,6 +621,7 @@ macro_rules! makers_of_one {
 makers_of_one! {
     normalize = typed_path_normalize () -> OutOfMemory;
     clean = typed_path_clean () -> OutOfMemory;
+    to_ascii_lowercase = typed_path_to_ascii_lowercase () -> OutOfMemory;
     convert = typed_path_convert (other) -> OutOfMemory;
     convert_checked = typed_path_convert_checked (other) -> TryError<CheckedPathError>;
 }
@@ -614,6 +651,31 @@ pub(crate) fn absolutize(
             dialect,
             path.as_ptr(),
             path.len(),
+            directory.as_ptr(),
+            directory.len(),
+            out,
+            size,
+            len,
+        )
+    });
+    match made {
+        Ok(made) => Ok(Some(made)),
+        Err(status::OUT_OF_MEMORY) => Err(OutOfMemory),
+        Err(_) => Ok(None),
+    }
+}
+
+/// The normal path, read from a directory of a dialect where it is not absolute; none where it stays ambiguous.
+pub(crate) fn absolutize_from(
+    dialect: u32, path: &[u8], other: u32, directory: &[u8],
+) -> Result<Option<Vec<u8>>, OutOfMemory> {
+    // SAFETY: the pointers are those of slices, with their lengths, and of new memory.
+    let made = made(bound(path, directory, 4), |out, size, len| unsafe {
+        typed_path_absolutize_from(
+            dialect,
+            path.as_ptr(),
+            path.len(),
+            other,
             directory.as_ptr(),
             directory.len(),
             out,

@@ -1282,6 +1282,22 @@ macro_rules! asked {
                 }
             }
 
+            /// Whether it begins with the components of the base, as they are written in lower case
+            /// ([`starts_with_ignore_ascii_case`](crate::Path::starts_with_ignore_ascii_case)).
+            ///
+            /// ```
+            #[doc = $use]
+            ///
+            #[doc = concat!("assert!(", $make, "(\"/Srv/a\").starts_with_ignore_ascii_case(\"/srv\"));")]
+            /// ```
+            #[inline]
+            pub fn starts_with_ignore_ascii_case(&self, base: impl AsRef<$Slice>) -> bool {
+                match self {
+                    Self::Unix(path) => path.starts_with_ignore_ascii_case($Unix::new(&base)),
+                    Self::Windows(path) => path.starts_with_ignore_ascii_case($Windows::new(&base)),
+                }
+            }
+
             joins! {
                 $PathBuf, $Unix, $Windows, $Slice, $make, $use,
                 "The path with another of the same dialect pushed onto it ([`join`](crate::Path::join)).",
@@ -1344,6 +1360,9 @@ macro_rules! asked {
                  ([`clean`](crate::Path::clean)).",
                 "assert_eq!(path(\"../a//b\").clean(), path(\"../a/b\"));",
                 clean = try_clean ();
+                "The path in lower case ([`to_ascii_lowercase`](crate::Path::to_ascii_lowercase)).",
+                "assert_eq!(path(\"A\").to_ascii_lowercase(), path(\"a\"));",
+                to_ascii_lowercase = try_to_ascii_lowercase ();
                 "The path with another file name ([`with_file_name`](crate::Path::with_file_name)).",
                 "assert_eq!(path(\"/a/b\").with_file_name(\"c\"), path(\"/a/c\"));",
                 with_file_name = try_with_file_name (file_name: $Slice);

@@ -326,6 +326,7 @@ macro_rules! answer {
             }
             "normalize" => both(path.normalize(), path.try_normalize()),
             "clean" => both(path.clean(), path.try_clean()),
+            "to_ascii_lowercase" => both(path.to_ascii_lowercase(), path.try_to_ascii_lowercase()),
             "relative_to" => both(path.relative_to(other), path.try_relative_to(other)),
             "convert" if $to_windows => path.with_windows_encoding().told(),
             "convert" => path.with_unix_encoding().told(),
@@ -363,6 +364,7 @@ macro_rules! answer {
             "may_be_device" => path.may_be_device().told(),
             "keeps_prefix" => path.keeps_prefix().told(),
             "starts_with" => path.starts_with(other).told(),
+            "starts_with_ignore_ascii_case" => path.starts_with_ignore_ascii_case(other).told(),
             "ends_with" => path.ends_with(other).told(),
             "is_within" => path.is_within(other).told(),
             _ => return None,
@@ -370,12 +372,25 @@ macro_rules! answer {
     }};
 }
 
+/// What a row says of a path that was made absolute, or is ambiguous.
+fn absolute<P: Told>(made: Option<P>) -> Answer {
+    made.map_or_else(|| Err("AMBIGUOUS".into()), Told::told)
+}
+
 macro_rules! of_one_dialect {
     ($bytes:ident, $text:ident, $Path:ident, $Utf8Path:ident, $PathBuf:ident, $Utf8PathBuf:ident) => {
         fn $bytes(call: &str, path: &[u8], other: &[u8]) -> Option<Answer> {
             let (path, other) = ($Path::new(path), $Path::new(other));
             match call {
+                "absolutize_from_unix" => {
+                    return Some(absolute(path.absolutize_from(UnixPath::new(other.as_bytes()))))
+                }
+                "absolutize_from_windows" => {
+                    return Some(absolute(path.absolutize_from(WindowsPath::new(other.as_bytes()))));
+                }
                 "equal" => return Some(Ok((path == other).to_string().into())),
+                "equal_ignore_ascii_case" => return Some(path.eq_ignore_ascii_case(other).told()),
+                "compare_ignore_ascii_case" => return Some(path.cmp_ignore_ascii_case(other).told()),
                 "compare" => return Some(ordered(path, other, [path.key(), other.key()]).told()),
                 _ => answer!(
                     call,
@@ -390,7 +405,15 @@ macro_rules! of_one_dialect {
         fn $text(call: &str, path: &str, other: &str) -> Option<Answer> {
             let (path, other) = ($Utf8Path::new(path), $Utf8Path::new(other));
             match call {
+                "absolutize_from_unix" => {
+                    return Some(absolute(path.absolutize_from(Utf8UnixPath::new(other.as_str()))))
+                }
+                "absolutize_from_windows" => {
+                    return Some(absolute(path.absolutize_from(Utf8WindowsPath::new(other.as_str()))));
+                }
                 "equal" => return Some(Ok((path == other).to_string().into())),
+                "equal_ignore_ascii_case" => return Some(path.eq_ignore_ascii_case(other).told()),
+                "compare_ignore_ascii_case" => return Some(path.cmp_ignore_ascii_case(other).told()),
                 "compare" => return Some(ordered(path, other, [path.key(), other.key()]).told()),
                 _ => answer!(
                     call,

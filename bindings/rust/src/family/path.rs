@@ -269,6 +269,43 @@ macro_rules! path {
                 ffi::is_within(T::DIALECT, self.all(), base.as_ref().all())
             }
 
+            /// Whether both have the same components in lower case, as
+            /// [`to_ascii_lowercase`](Self::to_ascii_lowercase) writes them.
+            ///
+            /// ```
+            #[doc = $use]
+            ///
+            /// assert!(Unix::new("a//B").eq_ignore_ascii_case("A/b"));
+            /// ```
+            #[inline]
+            pub fn eq_ignore_ascii_case<P: AsRef<$Path<T>>>(&self, other: P) -> bool {
+                ffi::equal_ignore_ascii_case(T::DIALECT, self.all(), other.as_ref().all())
+            }
+
+            /// The order of the two in lower case, by their components.
+            ///
+            /// ```
+            #[doc = $use]
+            ///
+            /// assert!(Unix::new("B").cmp_ignore_ascii_case("a").is_gt());
+            /// ```
+            #[inline]
+            pub fn cmp_ignore_ascii_case<P: AsRef<$Path<T>>>(&self, other: P) -> core::cmp::Ordering {
+                ffi::compare_ignore_ascii_case(T::DIALECT, self.all(), other.as_ref().all())
+            }
+
+            /// Whether it begins with the components of the base, as they are written in lower case.
+            ///
+            /// ```
+            #[doc = $use]
+            ///
+            /// assert!(Windows::new(r"c:\A").starts_with_ignore_ascii_case("C:"));
+            /// ```
+            #[inline]
+            pub fn starts_with_ignore_ascii_case<P: AsRef<$Path<T>>>(&self, base: P) -> bool {
+                ffi::starts_with_ignore_ascii_case(T::DIALECT, self.all(), base.as_ref().all())
+            }
+
             /// The path without its last component. None of an empty path, a root, or a prefix but a drive.
             ///
             /// ```
@@ -740,6 +777,70 @@ macro_rules! path {
             #[inline]
             pub fn try_clean(&self) -> Result<$PathBuf<T>, OutOfMemory> {
                 Ok($PathBuf::own($made(ffi::clean(T::DIALECT, self.all())?)))
+            }
+
+            /// The path with each ASCII letter in lower case, but on Windows for the `UNC` of `\\?\UNC\` before a
+            /// server, which is read so only in capitals.
+            ///
+            /// ```
+            #[doc = $use]
+            ///
+            /// assert_eq!(Unix::new("Src/É").to_ascii_lowercase().to_string(), "src/É");
+            /// ```
+            #[inline]
+            pub fn to_ascii_lowercase(&self) -> $PathBuf<T> {
+                or_end(self.try_to_ascii_lowercase())
+            }
+
+            /// [`to_ascii_lowercase`](Self::to_ascii_lowercase); refused memory is an answer.
+            ///
+            /// # Errors
+            ///
+            /// Memory was refused.
+            ///
+            /// ```
+            #[doc = $use]
+            ///
+            /// assert_eq!(Unix::new("A").try_to_ascii_lowercase().unwrap().to_string(), "a");
+            /// ```
+            #[inline]
+            pub fn try_to_ascii_lowercase(&self) -> Result<$PathBuf<T>, OutOfMemory> {
+                Ok($PathBuf::own($made(ffi::to_ascii_lowercase(T::DIALECT, self.all())?)))
+            }
+
+            /// The normal path, read from the directory where it is not absolute; none where it is not absolute
+            /// behind that either. On Windows it may be on another drive, and not absolute: of `C:\a\D:` it is `D:`.
+            ///
+            /// ```
+            #[doc = $use]
+            ///
+            /// let work = Windows::new(r"C:\work");
+            /// assert_eq!(Windows::new(r"..\a").absolutize_from(work).unwrap().to_string(), r"C:\a");
+            /// assert_eq!(Windows::new("D:a").absolutize_from(work), None);
+            /// ```
+            #[inline]
+            pub fn absolutize_from<U: $Encoding>(&self, directory: &$Path<U>) -> Option<$PathBuf<T>> {
+                or_end(self.try_absolutize_from(directory))
+            }
+
+            /// [`absolutize_from`](Self::absolutize_from); refused memory is an answer.
+            ///
+            /// # Errors
+            ///
+            /// Memory was refused.
+            ///
+            /// ```
+            #[doc = $use]
+            ///
+            /// let path = Unix::new("a").try_absolutize_from(Unix::new("/srv")).unwrap();
+            /// assert_eq!(path.unwrap().to_string(), "/srv/a");
+            /// ```
+            pub fn try_absolutize_from<U: $Encoding>(
+                &self,
+                directory: &$Path<U>,
+            ) -> Result<Option<$PathBuf<T>>, OutOfMemory> {
+                let made = ffi::absolutize_from(T::DIALECT, self.all(), U::DIALECT, directory.all())?;
+                Ok(made.map(|made| $PathBuf::own($made(made))))
             }
 
             /// The path that leads from the base to this one, by `..` and names; `.` where both lead alike. None
