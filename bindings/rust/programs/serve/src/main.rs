@@ -1,4 +1,4 @@
-//! Serves the files below a folder over HTTP: `serve FOLDER [PORT]`. It prints the address at which it listens.
+//! Serves the files below a folder over HTTP: `serve FOLDER [PORT]`. It prints where it listens.
 //!
 //! A request for a folder gets its `index.html`. A path that leads out of FOLDER, or that has a name which this machine
 //! does not allow, is refused with 400. Only the text is judged: links in FOLDER are followed.
@@ -29,7 +29,9 @@ fn decoded(part: &str) -> Option<String> {
 }
 
 /// The file below the root that a request asks for, and its path as a page of the server.
-fn target(root: &Utf8PlatformPath, request: &str) -> Result<(Utf8UnixPathBuf, Utf8PlatformPathBuf), Box<dyn Error>> {
+fn target(
+    root: &Utf8PlatformPath, request: &str,
+) -> Result<(Utf8UnixPathBuf, Utf8PlatformPathBuf), Box<dyn Error>> {
     let path = decoded(request.split(['?', '#']).next().unwrap_or("")).ok_or("it is no text")?;
     let page = Utf8UnixPath::new(&path).strip_prefix("/")?;
     let file = root.join_checked(page.with_platform_encoding_checked()?)?;
@@ -71,7 +73,9 @@ impl Server {
         };
         match target(&self.root, path).map(|(page, file)| (page, read(&file))) {
             Err(refusal) => text("400 Bad Request", refusal.to_string()),
-            Ok((_, Err(error))) if error.kind() == io::ErrorKind::NotFound => text("404 Not Found", String::new()),
+            Ok((_, Err(error))) if error.kind() == io::ErrorKind::NotFound => {
+                text("404 Not Found", String::new())
+            }
             Ok((_, Err(error))) => text("500 Internal Server Error", error.kind().to_string()),
             Ok((page, Ok((content, kind)))) => {
                 let reads = self.reads.entry(page.clone()).or_default();
@@ -89,7 +93,11 @@ impl Server {
         // The headers are taken, and say nothing that is asked here.
         while lines.next().transpose()?.is_some_and(|line| !line.is_empty()) {}
         let (status, content, kind) = self.answer(&request);
-        write!(&stream, "HTTP/1.0 {status}\r\nContent-Type: {kind}\r\nContent-Length: {}\r\n\r\n", content.len())?;
+        write!(
+            &stream,
+            "HTTP/1.0 {status}\r\nContent-Type: {kind}\r\nContent-Length: {}\r\n\r\n",
+            content.len()
+        )?;
         (&stream).write_all(&content)
     }
 }

@@ -23,7 +23,11 @@ fn answer(address: &str, request: &str) -> String {
     stream.read_to_string(&mut answer).unwrap();
     let (head, content) = answer.split_once("\r\n\r\n").unwrap();
     let words: Vec<&str> = head.split([' ', ';', '\r']).collect();
-    format!("{} {} {content}", words[1], words.iter().find(|word| word.contains('/') && word.len() != 8).unwrap())
+    format!(
+        "{} {} {content}",
+        words[1],
+        words.iter().find(|word| word.contains('/') && word.len() != 8).unwrap()
+    )
 }
 
 #[test]

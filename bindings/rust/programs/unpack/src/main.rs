@@ -76,7 +76,9 @@ fn write(folder: &PlatformPath, entry: &Entry, mut content: impl Read) -> Result
 }
 
 /// Unpacks all entries, and returns how many were refused.
-fn unpack(folder: &PlatformPath, mut archive: impl Read, mut lines: impl Write) -> Result<usize, Box<dyn Error>> {
+fn unpack(
+    folder: &PlatformPath, mut archive: impl Read, mut lines: impl Write,
+) -> Result<usize, Box<dyn Error>> {
     let mut refused = 0;
     let mut header = [0; BLOCK];
     loop {

@@ -1,0 +1,131 @@
+//! Asks the Rust crate, mended as `mend.sh` does, and this one of random paths, and compares each answer.
+//!
+//! `beside ANSWERS [SEED]` ends in `N answers about M pairs of paths, 0 wrong`. Of each call that differs it shows
+//! before how often, and by the shortest pair.
+
+mod of_mended {
+    use mended as typed_path;
+    include!("answers.rs");
+}
+mod of_this {
+    use proved as typed_path;
+    include!("answers.rs");
+}
+
+use std::collections::BTreeMap;
+use std::fmt::Debug;
+use std::hash::Hasher;
+use std::process::ExitCode;
+
+/// Keeps each write of what is fed to it.
+#[derive(Debug, Default)]
+struct Fed(Vec<Vec<u8>>);
+
+impl Hasher for Fed {
+    fn write(&mut self, bytes: &[u8]) {
+        self.0.push(bytes.to_vec());
+    }
+    fn finish(&self) -> u64 {
+        0
+    }
+}
+
+/// Answers behind the part of the library and the call that gave them.
+#[derive(Default)]
+struct Told {
+    part: &'static str,
+    answers: Vec<(&'static str, &'static str, String)>,
+}
+
+impl Told {
+    fn tell(&mut self, call: &'static str, answer: impl Debug) {
+        self.answers.push((self.part, call, format!("{answer:?}")));
+    }
+}
+
+/// Numbers that a seed makes (splitmix64).
+struct Numbers(u64);
+
+impl Numbers {
+    fn next(&mut self) -> u64 {
+        self.0 = self.0.wrapping_add(0x9e37_79b9_7f4a_7c15);
+        let mixed = (self.0 ^ (self.0 >> 30)).wrapping_mul(0xbf58_476d_1ce4_e5b9);
+        let mixed = (mixed ^ (mixed >> 27)).wrapping_mul(0x94d0_49bb_1331_11eb);
+        mixed ^ (mixed >> 31)
+    }
+    fn below(&mut self, bound: usize) -> usize {
+        (self.next() % bound as u64) as usize
+    }
+}
+
+/// What rules ask for: separators, prefixes and their beginnings, dots, devices, bytes that names may not have.
+const PIECES: [&str; 42] = [
+    "/", "/", "/", "\\", "\\", "\\", "//", "\\\\", ".", ".", "..", "..", "...", "a", "b", "A", "a.b", ".x",
+    "a.", "C:", "c:", "D:", ":", "?", "\\\\?\\", "//?/", "\\\\.\\", "UNC", "UNC\\", "unc\\", "server",
+    "share", "con", "NUL.txt", "lpt9.", "com10", "tar.gz", "\0", "|", " ", "\u{e9}", "日本",
+];
+
+/// A path of some pieces, now and then with a byte changed to any.
+fn chosen(numbers: &mut Numbers) -> Vec<u8> {
+    let most = if numbers.below(8) == 0 { 40 } else { 9 };
+    let mut path = Vec::new();
+    for _ in 0..numbers.below(most) {
+        path.extend_from_slice(PIECES[numbers.below(PIECES.len())].as_bytes());
+    }
+    if numbers.below(20) == 0 && !path.is_empty() {
+        let at = numbers.below(path.len());
+        path[at] = numbers.next() as u8;
+    }
+    path
+}
+
+/// Every path of up to four of these bytes.
+fn short() -> impl Iterator<Item = Vec<u8>> {
+    let bytes = b"/\\.aC:?";
+    (0..=4).flat_map(move |len| {
+        let digit = move |number: usize, at| bytes[number / bytes.len().pow(at) % bytes.len()];
+        (0..bytes.len().pow(len)).map(move |number| (0..len).map(|at| digit(number, at)).collect())
+    })
+}
+
+fn main() -> ExitCode {
+    let mut words = std::env::args().skip(1).map(|word| word.parse::<u64>().expect("a number"));
+    let (wanted, seed) = (words.next().expect("how many answers are wanted"), words.next().unwrap_or(1));
+    let mut numbers = Numbers(seed);
+    let mut first = short();
+    let (mut pairs, mut answers, mut wrong) = (0, 0, 0);
+    let mut found: BTreeMap<_, (u64, String)> = BTreeMap::new();
+    while answers < wanted {
+        let path = first.next().unwrap_or_else(|| chosen(&mut numbers));
+        let (other, ends) = (chosen(&mut numbers), numbers.next());
+        let (mut theirs, mut ours) = (Told::default(), Told::default());
+        of_mended::answers(&mut theirs, &path, &other, ends);
+        of_this::answers(&mut ours, &path, &other, ends);
+        pairs += 1;
+        answers += theirs.answers.len() as u64;
+        let mut differ = |part, call, theirs: String, ours: String| {
+            wrong += 1;
+            let (count, shortest) = found.entry((part, call)).or_default();
+            *count += 1;
+            let pair = format!("\"{}\" and \"{}\"", path.escape_ascii(), other.escape_ascii());
+            let shown = format!("of {pair} the crate answers {theirs}, this one {ours}");
+            if shortest.is_empty() || shown.len() < shortest.len() {
+                *shortest = shown;
+            }
+        };
+        if theirs.answers.len() != ours.answers.len() {
+            let [theirs, ours] = [&theirs, &ours].map(|told| told.answers.len().to_string());
+            differ("all", "how many answers there are", theirs, ours);
+        }
+        for ((part, call, theirs), (_, _, ours)) in theirs.answers.into_iter().zip(ours.answers) {
+            if theirs != ours {
+                differ(part, call, theirs, ours);
+            }
+        }
+    }
+    for ((part, call), (count, shortest)) in found {
+        println!("{part}, {call}: {count} differ, as {shortest}");
+    }
+    println!("{answers} answers about {pairs} pairs of paths, {wrong} wrong");
+    ExitCode::from(u8::from(wrong > 0))
+}
