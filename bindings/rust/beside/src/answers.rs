@@ -105,9 +105,9 @@ macro_rules! of_windows {
                 told.tell("of a component", (one.is_prefix(), one.prefix(), one.prefix_kind(), fed));
             }
             let text = path.$as_slice();
-            told.tell("a component", $Component::try_from(text).ok());
-            told.tell("a prefix", $Prefix::try_from(text).ok());
-            told.tell("a prefix component", $PrefixComponent::try_from(text).ok());
+            told.tell("a component", $Component::try_from(text));
+            told.tell("a prefix", $Prefix::try_from(text));
+            told.tell("a prefix component", $PrefixComponent::try_from(text));
         }
     };
 }
@@ -136,10 +136,8 @@ macro_rules! of_typed {
             told.tell("with_windows_encoding", path.with_windows_encoding());
             told.tell("with_unix_encoding_checked", path.with_unix_encoding_checked());
             told.tell("with_windows_encoding_checked", path.with_windows_encoding_checked());
-            told.tell(
-                "==",
-                (path == $Path::derive(other), path == $PathBuf::from(other), $Path::derive(other) == path),
-            );
+            let (lent, kept) = ($Path::derive(other), $PathBuf::from(other));
+            told.tell("==", (path == lent, lent == path, path == kept, kept == path));
 
             let mut owned = path.to_path_buf();
             told.tell("set_extension", (owned.set_extension(other), &owned));
@@ -172,14 +170,51 @@ macro_rules! of_typed {
 of_typed!(typed: TypedPath, TypedPathBuf, as_bytes, [u8]);
 of_typed!(typed_text: Utf8TypedPath, Utf8TypedPathBuf, as_str, str);
 
-/// Tells what the crate answers of a path and another one, which is read from the ends that the bits of `ends` name.
+/// Tells what asks for no path: constants, and what errors and encodings print.
+pub fn fixed(told: &mut Told) {
+    use constants::{unix, windows};
+    told.part = "fixed";
+    told.tell("constants::unix", (unix::SEPARATOR, unix::SEPARATOR_STR, unix::CURRENT_DIR, unix::PARENT_DIR));
+    told.tell("constants::unix", (unix::CURRENT_DIR_STR, unix::PARENT_DIR_STR));
+    told.tell("constants::unix", (unix::DISALLOWED_FILENAME_BYTES, unix::DISALLOWED_FILENAME_CHARS));
+    told.tell("constants::windows", (windows::SEPARATOR, windows::SEPARATOR_STR, windows::ALT_SEPARATOR));
+    told.tell("constants::windows", (windows::ALT_SEPARATOR_STR, windows::CURRENT_DIR, windows::PARENT_DIR));
+    told.tell("constants::windows", (windows::CURRENT_DIR_STR, windows::PARENT_DIR_STR));
+    told.tell("constants::windows", (windows::DISALLOWED_FILENAME_BYTES, windows::DISALLOWED_FILENAME_CHARS));
+    told.tell("constants::windows", (windows::RESERVED_DEVICE_NAMES, windows::RESERVED_DEVICE_NAMES_STR));
+    for error in [
+        CheckedPathError::InvalidFilename,
+        CheckedPathError::PathTraversalAttack,
+        CheckedPathError::UnexpectedPrefix,
+        CheckedPathError::UnexpectedRoot,
+    ] {
+        told.tell("CheckedPathError", (error.to_string(), &error));
+    }
+    told.tell("StripPrefixError", UnixPath::new("a").strip_prefix("b").map_err(|error| error.to_string()));
+    told.tell("UnixEncoding", (UnixEncoding, UnixEncoding::label(), UnixEncoding.to_string()));
+    told.tell("WindowsEncoding", (WindowsEncoding, WindowsEncoding::label(), WindowsEncoding.to_string()));
+    told.tell(
+        "PlatformEncoding",
+        (PlatformEncoding, PlatformEncoding::label(), PlatformEncoding.to_string()),
+    );
+    told.tell(
+        "Utf8UnixEncoding",
+        (Utf8UnixEncoding, Utf8UnixEncoding::label(), Utf8UnixEncoding.to_string()),
+    );
+    let encoding = (Utf8WindowsEncoding, Utf8WindowsEncoding::label(), Utf8WindowsEncoding.to_string());
+    told.tell("Utf8WindowsEncoding", encoding);
+    told.tell("utils", (utils::current_dir().ok(), utils::utf8_current_exe().ok(), utils::temp_dir().ok()));
+}
+
+/// Tells what the crate answers of a path and another one. The bits of `ends` name the ends from which the path
+/// is read.
 pub fn answers(told: &mut Told, path: &[u8], other: &[u8], ends: u64) {
     told.part = "Unix";
     let of_unix = UnixPath::new(path);
     bytes(told, of_unix, UnixPath::new(other), ends);
     told.tell("to_str", (of_unix.to_str(), of_unix.to_string_lossy()));
     told.tell("display", (of_unix.to_string(), of_unix.display().to_string()));
-    told.tell("a component", UnixComponent::try_from(path).ok());
+    told.tell("a component", UnixComponent::try_from(path));
     told.part = "Windows";
     bytes(told, WindowsPath::new(path), WindowsPath::new(other), ends);
     windows(told, WindowsPath::new(path), ends);
@@ -188,7 +223,7 @@ pub fn answers(told: &mut Told, path: &[u8], other: &[u8], ends: u64) {
     if let (Ok(path), Ok(other)) = (std::str::from_utf8(path), std::str::from_utf8(other)) {
         told.part = "Unix text";
         text(told, Utf8UnixPath::new(path), Utf8UnixPath::new(other), ends);
-        told.tell("a component", Utf8UnixComponent::try_from(path).ok());
+        told.tell("a component", Utf8UnixComponent::try_from(path));
         told.part = "Windows text";
         text(told, Utf8WindowsPath::new(path), Utf8WindowsPath::new(other), ends);
         windows_text(told, Utf8WindowsPath::new(path), ends);

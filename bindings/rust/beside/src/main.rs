@@ -1,7 +1,7 @@
 //! Asks the Rust crate, mended as `mend.sh` does, and this one of random paths, and compares each answer.
 //!
-//! `beside ANSWERS [SEED]` ends in `N answers about M pairs of paths, 0 wrong`. Of each call that differs it shows
-//! before how often, and by the shortest pair.
+//! `beside ANSWERS [SEED]` ends in `N answers about M pairs of paths, 0 wrong`. Before that it tells of each
+//! call that differs, how often, and shows the shortest pair.
 
 mod of_mended {
     use mended as typed_path;
@@ -95,10 +95,12 @@ fn main() -> ExitCode {
     let mut first = short();
     let (mut pairs, mut answers, mut wrong) = (0, 0, 0);
     let mut found: BTreeMap<_, (u64, String)> = BTreeMap::new();
+    let (mut theirs, mut ours) = (Told::default(), Told::default());
+    of_mended::fixed(&mut theirs);
+    of_this::fixed(&mut ours);
     while answers < wanted {
         let path = first.next().unwrap_or_else(|| chosen(&mut numbers));
         let (other, ends) = (chosen(&mut numbers), numbers.next());
-        let (mut theirs, mut ours) = (Told::default(), Told::default());
         of_mended::answers(&mut theirs, &path, &other, ends);
         of_this::answers(&mut ours, &path, &other, ends);
         pairs += 1;
@@ -117,7 +119,7 @@ fn main() -> ExitCode {
             let [theirs, ours] = [&theirs, &ours].map(|told| told.answers.len().to_string());
             differ("all", "how many answers there are", theirs, ours);
         }
-        for ((part, call, theirs), (_, _, ours)) in theirs.answers.into_iter().zip(ours.answers) {
+        for ((part, call, theirs), (_, _, ours)) in theirs.answers.drain(..).zip(ours.answers.drain(..)) {
             if theirs != ours {
                 differ(part, call, theirs, ours);
             }

@@ -1,7 +1,7 @@
 //! Serves the files below a folder over HTTP: `serve FOLDER [PORT]`. It prints where it listens.
 //!
-//! A request for a folder gets its `index.html`. A path that leads out of FOLDER, or that has a name which this machine
-//! does not allow, is refused with 400. Only the text is judged: links in FOLDER are followed.
+//! A request for a folder gets its `index.html`. A path that leads out of FOLDER, or has a name that this
+//! machine does not allow, is refused with 400. Only the text is judged: links in FOLDER are followed.
 
 use std::collections::BTreeMap;
 use std::error::Error;

@@ -1,9 +1,9 @@
 //! Unpacks an archive of tar, in the ustar format, below a folder: `unpack FOLDER < ARCHIVE`.
 //!
-//! A line tells of each entry: `ok`, a tab and where it lies, or why it was refused, a tab and its name. Folders and
-//! files are written, and nothing is written over. No link is written, so that no name leads through one of the
-//! archive; those that FOLDER had before are followed. The status is 0 if all were taken, 1 if some were refused, and
-//! 2 if it could not go on.
+//! A line tells of each entry: `ok`, a tab and where it lies, or why it was refused, a tab and its name.
+//! Folders and files are written, and nothing is written over. No link is written, so that no name leads
+//! through one of the archive; those that FOLDER had before are followed. The status is 0 if all were taken,
+//! 1 if some were refused, and 2 if it could not go on.
 
 use std::error::Error;
 use std::fs::{self, OpenOptions};
