@@ -11,7 +11,21 @@ import sys
 
 # Traits that are implemented without a word, and tell where a value may go.
 AUTO = {"Send", "Sync", "Unpin", "UnwindSafe", "RefUnwindSafe"}
+IMPLIED = {"Ord": {"Eq", "PartialEq", "PartialOrd"}, "Eq": {"PartialEq"}, "Clone": {"Sized"}}
 LIFETIME = r"'(?!static|_)\w+"
+
+
+def named(line):
+    """A line with its lifetimes by number, in which one that stands there once is as one without a name."""
+    names = re.findall(LIFETIME, line)
+    names = [it for it in dict.fromkeys(names) if names.count(it) > 1]
+    line = re.sub(LIFETIME, lambda it: f"'{names.index(it[0])}" if it[0] in names else "'_", line)
+    return line.replace("&'_ ", "&").replace("<'_>", "").replace("<'_, ", "<")
+
+
+def looser(line):
+    """A line without the bounds of its parameters by lifetimes, which only keep a caller from more."""
+    return named(re.sub(r"(?<=: )'\d+ \+ ", "", line))
 
 
 class Surface:
@@ -34,11 +48,7 @@ class Surface:
         return self.paths[str(trait["id"])]["crate_id"] != 0 or trait["id"] in self.shown
 
     def say(self, line):
-        """Puts a line, in which a lifetime that stands there once is as one without a name."""
-        names = re.findall(LIFETIME, line)
-        names = [it for it in dict.fromkeys(names) if names.count(it) > 1]
-        line = re.sub(LIFETIME, lambda it: f"'{names.index(it[0])}" if it[0] in names else "'_", line)
-        self.lines.add(line.replace("&'_ ", "&").replace("<'_>", "").replace("<'_, ", "<"))
+        self.lines.add(named(line))
 
     # Types, as text.
 
@@ -87,8 +97,10 @@ class Surface:
                 of, modifier = it["trait_bound"]["trait"], it["trait_bound"]["modifier"]
                 if self.is_shown(of):
                     words.add("?" * (modifier == "maybe") + of["path"].split("::")[-1] + self.arguments(of["args"]))
-        if words & {"Eq", "Ord"}:
-            words -= {"PartialEq", "PartialOrd"} | ({"Eq"} if "Ord" in words else set())
+        for one, implied in IMPLIED.items():
+            words -= implied if one in words else set()
+        if any(it.startswith("Iterator<") for it in words):
+            words = {re.sub("^DoubleEndedIterator<.*", "DoubleEndedIterator", it) for it in words}
         return " + ".join(sorted(words))
 
     def where(self, generics):
@@ -97,13 +109,12 @@ class Surface:
         for it in generics["params"]:
             if "type" in it["kind"] and not it["kind"]["type"]["is_synthetic"]:
                 of.setdefault(it["name"], []).extend(it["kind"]["type"]["bounds"])
-            elif "const" in it["kind"]:
-                of[f"const {it['name']}"] = []
         for it in generics["where_predicates"]:
             if "bound_predicate" in it:
                 it = it["bound_predicate"]
                 of.setdefault(self.type(it["type"]), []).extend(it["bounds"])
-        return " where " + ", ".join(f"{name}: {self.bounds(of[name])}" for name in sorted(of)) if of else ""
+        words = [f"{name}: {self.bounds(its)}" for name, its in sorted(of.items()) if self.bounds(its)]
+        return " where " + ", ".join(words) if words else ""
 
     def function(self, item):
         of = item["inner"]["function"]
@@ -169,7 +180,8 @@ class Surface:
             self.say(f"{name} has no fields")
 
     def trait(self, of, name):
-        self.say(f"trait {name}: {self.bounds(of['bounds'])}")
+        if self.bounds(of["bounds"]):
+            self.say(f"trait {name}: {self.bounds(of['bounds'])}")
         for it in map(self.item, of["items"]):
             (kind, inner), = it["inner"].items()
             if kind == "function":
@@ -199,12 +211,13 @@ class Surface:
 
 def main(original, crate):
     theirs, ours = Surface(original).lines, Surface(crate).lines
-    for line in sorted(theirs - ours):
+    lacking = [line for line in sorted(theirs - ours) if looser(line) not in ours]
+    for line in lacking:
         print(f"lacks: {line}")
     for line in sorted(ours - theirs):
         print(f"has beside: {line}")
-    print(f"{len(theirs)} lines, {len(theirs - ours)} wrong")
-    return bool(theirs - ours) or not theirs
+    print(f"{len(theirs)} lines, {len(lacking)} wrong")
+    return bool(lacking) or not theirs
 
 
 if __name__ == "__main__":

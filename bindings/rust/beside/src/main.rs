@@ -3,6 +3,7 @@
 //! `beside ANSWERS [SEED]` ends in `N answers about M pairs of paths, 0 wrong`. Before that it tells of each
 //! call that differs, how often, and shows the shortest pair.
 
+mod numbers;
 mod of_mended {
     use mended as typed_path;
     include!("answers.rs");
@@ -16,6 +17,8 @@ use std::collections::BTreeMap;
 use std::fmt::Debug;
 use std::hash::Hasher;
 use std::process::ExitCode;
+
+use numbers::Numbers;
 
 /// Keeps each write of what is fed to it.
 #[derive(Debug, Default)]
@@ -40,21 +43,6 @@ struct Told {
 impl Told {
     fn tell(&mut self, call: &'static str, answer: impl Debug) {
         self.answers.push((self.part, call, format!("{answer:?}")));
-    }
-}
-
-/// Numbers that a seed makes (splitmix64).
-struct Numbers(u64);
-
-impl Numbers {
-    fn next(&mut self) -> u64 {
-        self.0 = self.0.wrapping_add(0x9e37_79b9_7f4a_7c15);
-        let mixed = (self.0 ^ (self.0 >> 30)).wrapping_mul(0xbf58_476d_1ce4_e5b9);
-        let mixed = (mixed ^ (mixed >> 27)).wrapping_mul(0x94d0_49bb_1331_11eb);
-        mixed ^ (mixed >> 31)
-    }
-    fn below(&mut self, bound: usize) -> usize {
-        (self.next() % bound as u64) as usize
     }
 }
 
