@@ -27,7 +27,7 @@ part() {
     else
         failed=$((failed + 1))
         echo "$name: FAILED"
-        tail -n 60 "$room/said"
+        tail -n 40 "$room/said"
     fi
 }
 left_out() {
@@ -100,6 +100,9 @@ each_sort() {
 }
 if is_there cargo-clippy; then
     each_sort "no lint" "$crate" clippy --all-targets -- -D warnings
+    for folder in programs/unpack programs/serve bench; do
+        part "no lint, $folder" in_folder "$crate/$folder" clippy --all-targets -- -D warnings
+    done
 else
     left_out "lints" clippy
 fi
@@ -132,7 +135,7 @@ runs_over() {
     local folder=$room/$1_$2
     cp -R "$crate/programs/$1" "$folder"
     sed -i "s|^typed-path = .*|typed-path = { $3 }|" "$folder/Cargo.toml"
-    diff "$crate/programs/$1/Cargo.toml" "$folder/Cargo.toml" | grep -c '^>' | grep -qx 1 || return 1
+    [[ $(diff "$crate/programs/$1/Cargo.toml" "$folder/Cargo.toml" | grep -c '^>') -eq 1 ]] || return 1
     in_folder "$folder" test
 }
 for program in unpack serve; do
@@ -180,8 +183,9 @@ fi
 
 # Random answers.
 answers_alike() {
-    "$here/beside/mend.sh" "$TYPED_PATH_CRATE" "$crate/beside/mended" &&
-        (cd "$crate/beside" && cargo build --release) && "$room/target/release/beside" "$1"
+    "$here/beside/mend.sh" "$TYPED_PATH_CRATE" "$room/mended" &&
+        sed -i "s|\"mended\"|\"$room/mended\"|" "$crate/beside/Cargo.toml" &&
+        in_folder "$crate/beside" build --release && "$room/target/release/beside" "$1"
 }
 part "answers beside the Rust crate" answers_alike "${2:-10000000}"
 end

@@ -181,19 +181,25 @@ fn main() -> Result<(), String> {
     let mut words = std::env::args().skip(1);
     let sweeps = words.next().and_then(|it| it.parse().ok()).ok_or("bench SWEEPS [WORD]")?;
     let word = words.next().unwrap_or_default();
-    let mut unix: Vec<(&str, Rows)> = vec![("here", here::of_unix)];
-    let mut windows: Vec<(&str, Rows)> = vec![("here", here::of_windows)];
-    let mut text: Vec<(&str, Rows)> = vec![("here", here::of_unix_text)];
-    #[cfg(feature = "beside_crate")]
-    {
-        unix.push(("the crate", of_crate::of_unix));
-        windows.push(("the crate", of_crate::of_windows));
-        text.push(("the crate", of_crate::of_unix_text));
-    }
-    unix.push(("`std::path`", of_std::of_unix));
-    #[cfg(feature = "beside_camino")]
-    text.push(("camino", of_camino::of_unix));
-    table("Unix", &unix, ["/", "/"], sweeps, &word)?;
-    table("Windows", &windows, ["C:\\", "\\"], sweeps, &word)?;
-    table("Unix, of text", &text, ["/", "/"], sweeps, &word)
+    let unix: &[(&str, Rows)] = &[
+        ("here", here::of_unix),
+        #[cfg(feature = "beside_crate")]
+        ("the crate", of_crate::of_unix),
+        ("`std::path`", of_std::of_unix),
+    ];
+    let windows: &[(&str, Rows)] = &[
+        ("here", here::of_windows),
+        #[cfg(feature = "beside_crate")]
+        ("the crate", of_crate::of_windows),
+    ];
+    let text: &[(&str, Rows)] = &[
+        ("here", here::of_unix_text),
+        #[cfg(feature = "beside_crate")]
+        ("the crate", of_crate::of_unix_text),
+        #[cfg(feature = "beside_camino")]
+        ("camino", of_camino::of_unix),
+    ];
+    table("Unix", unix, ["/", "/"], sweeps, &word)?;
+    table("Windows", windows, ["C:\\", "\\"], sweeps, &word)?;
+    table("Unix, of text", text, ["/", "/"], sweeps, &word)
 }
