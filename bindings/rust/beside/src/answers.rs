@@ -1,7 +1,6 @@
 // What one crate answers of two paths: `main.rs` takes this in once for each, where `typed_path` names it.
 
-use super::{Fed, Told};
-use std::hash::Hash;
+use super::{fed, items, Told};
 use typed_path::*;
 
 /// A function over paths of one dialect, by the types of a family.
@@ -26,9 +25,7 @@ macro_rules! of_paths {
             );
             told.tell("==", (path == other, path == &path.normalize(), *path == *other.$as_slice()));
             told.tell("cmp", (path.cmp(other), path.partial_cmp(parent)));
-            let mut fed = Fed::default();
-            path.hash(&mut fed);
-            told.tell("hash", fed);
+            told.tell("hash", path != other || fed(path) == fed(other));
             told.tell("normalize", path.normalize().$as_slice());
             told.tell("absolutize", path.absolutize().map(|it| it.$as_slice().to_owned()).ok());
             told.tell("join", path.join(other).$as_slice());
@@ -41,7 +38,8 @@ macro_rules! of_paths {
             told.tell("with_unix_encoding_checked", checked.map(|it| it.$as_slice().to_owned()));
             let checked = path.with_windows_encoding_checked();
             told.tell("with_windows_encoding_checked", checked.map(|it| it.$as_slice().to_owned()));
-            told.tell("Debug", (path, path.iter(), path.components()));
+            told.tell("Debug", (path, path.to_path_buf()));
+            told.tell("Debug of iterators", (items(&path.iter()), items(&path.components())));
 
             let mut owned = path.to_path_buf();
             told.tell("set_extension", (owned.set_extension(other.$as_slice()), &owned));
@@ -100,9 +98,7 @@ macro_rules! of_windows {
                 let taken = if ends & 1 == 0 { all.next() } else { all.next_back() };
                 ends = ends.rotate_right(1);
                 let Some(one) = taken else { break };
-                let mut fed = Fed::default();
-                one.hash(&mut fed);
-                told.tell("of a component", (one.is_prefix(), one.prefix(), one.prefix_kind(), fed));
+                told.tell("of a component", (one.is_prefix(), one.prefix(), one.prefix_kind(), fed(&one)));
             }
             let text = path.$as_slice();
             told.tell("a component", $Component::try_from(text));

@@ -15,13 +15,13 @@ mod of_this {
 
 use std::collections::BTreeMap;
 use std::fmt::Debug;
-use std::hash::Hasher;
+use std::hash::{Hash, Hasher};
 use std::process::ExitCode;
 
 use numbers::Numbers;
 
 /// Keeps each write of what is fed to it.
-#[derive(Debug, Default)]
+#[derive(Debug, Default, PartialEq)]
 struct Fed(Vec<Vec<u8>>);
 
 impl Hasher for Fed {
@@ -31,6 +31,19 @@ impl Hasher for Fed {
     fn finish(&self) -> u64 {
         0
     }
+}
+
+/// What a value feeds. Of paths it may differ, and is told only where two are equal.
+fn fed(value: &(impl Hash + ?Sized)) -> Fed {
+    let mut fed = Fed::default();
+    value.hash(&mut fed);
+    fed
+}
+
+/// What an iterator prints behind its name, which may differ.
+fn items(iterator: &impl Debug) -> String {
+    let text = format!("{iterator:?}");
+    text[text.find('(').unwrap_or(0)..].to_owned()
 }
 
 /// Answers behind the part of the library and the call that gave them.
@@ -67,6 +80,18 @@ fn chosen(numbers: &mut Numbers) -> Vec<u8> {
     path
 }
 
+/// Another path of some pieces, or the same one, in which a separator was turned, doubled or followed by a dot.
+fn beside(path: &[u8], numbers: &mut Numbers) -> Vec<u8> {
+    let mut other = path.to_vec();
+    match (path.iter().rposition(|byte| b"/\\".contains(byte)), numbers.below(12)) {
+        (Some(at), 0) => other[at] ^= b'/' ^ b'\\',
+        (Some(at), 1) => other.insert(at, path[at]),
+        (Some(at), 2) => drop(other.splice(at..at, [path[at], b'.'])),
+        _ => other = chosen(numbers),
+    }
+    other
+}
+
 /// Every path of up to four of these bytes.
 fn short() -> impl Iterator<Item = Vec<u8>> {
     let bytes = b"/\\.aC:?";
@@ -88,7 +113,7 @@ fn main() -> ExitCode {
     of_this::fixed(&mut ours);
     while answers < wanted {
         let path = first.next().unwrap_or_else(|| chosen(&mut numbers));
-        let (other, ends) = (chosen(&mut numbers), numbers.next());
+        let (other, ends) = (beside(&path, &mut numbers), numbers.next());
         of_mended::answers(&mut theirs, &path, &other, ends);
         of_this::answers(&mut ours, &path, &other, ends);
         pairs += 1;
