@@ -44,7 +44,8 @@ end() {
 
 # What needs no archive.
 is_formatted() {
-    find "$here" -name target -prune -o -name '*.rs' -print0 | xargs -0 rustfmt --check --color never --edition 2021
+    find "$here" -name target -prune -o -name '*.rs' -print0 |
+        xargs -0 rustfmt --check --color never --edition "$(sed -n 's/^edition = "\(.*\)"/\1/p' "$here/Cargo.toml")"
 }
 is_declared() {
     "$here/checks/declares.py" "$here/../c/include/typed_path.h" "$here/src/ffi.rs"
@@ -106,9 +107,12 @@ if is_there cargo-clippy; then
 else
     left_out "lints" clippy
 fi
-each_sort "its own tests" "$crate" test
+each_sort "its own tests" "$crate" test --lib --tests
+# The examples are programs of their own, and so run for the most features alone.
+# shellcheck disable=SC2086
+part "the examples of its documents" in_folder "$crate" test --doc ${sorts[-1]#--no-default-features}
 documents_stand() {
-    (cd "$crate" && RUSTDOCFLAGS="-D warnings" cargo doc --no-deps --lib)
+    RUSTDOCFLAGS="-D warnings" in_folder "$crate" doc --no-deps --lib
 }
 part "its documents stand without a warning" documents_stand
 
@@ -152,12 +156,14 @@ if [[ -z ${TYPED_PATH_CRATE:-} ]]; then
 fi
 
 # The public surface, as rustdoc tells it for other programs, which it does for testers alone.
-told_surface() {
-    (cd "$1" && RUSTC_BOOTSTRAP=1 cargo rustdoc --lib --target-dir "$room/$2" -- \
-        -Z unstable-options --output-format json --cap-lints allow) && cp "$room/$2/doc/typed_path.json" "$room/$2.json"
+json=(-Z unstable-options --output-format json --cap-lints allow)
+tells_surfaces() {
+    RUSTC_BOOTSTRAP=1 rustdoc --crate-name typed_path --edition 2021 --cfg 'feature="std"' "${json[@]}" \
+        -o "$room/theirs" "$TYPED_PATH_CRATE/src/lib.rs" &&
+        RUSTC_BOOTSTRAP=1 in_folder "$crate" rustdoc --lib -- "${json[@]}"
 }
 has_surface() {
-    "$here/checks/surface.py" "$room/theirs.json" "$room/ours.json"
+    "$here/checks/surface.py" "$room/theirs/typed_path.json" "$room/target/doc/typed_path.json"
 }
 # Its own tests, with their text.
 put_tests() {
@@ -166,17 +172,16 @@ put_tests() {
     "$here/checks/original_tests.py" "$crate" "$TYPED_PATH_CRATE" "$room/tests"
 }
 if is_there python3; then
-    cp -R "$TYPED_PATH_CRATE" "$room/original"
-    if told_surface "$room/original" theirs > "$room/said" 2>&1; then
-        part "the surface is told" told_surface "$crate" ours
+    if tells_surfaces > "$room/said" 2>&1; then
         part "the surface is that of the Rust crate" has_surface
         grep -c '^has beside: ' "$room/said" | sed 's/$/ lines stand beside those of the Rust crate/'
     else
-        left_out "the surface beside that of the Rust crate" "rustdoc that tells it as JSON"
+        left_out "the surface beside that of the Rust crate" "rustdoc that tells both as JSON"
     fi
     part "the tests of the Rust crate are put into a copy" put_tests
     sed -n '/^left out: /p' "$room/said"
-    each_sort "the tests of the Rust crate" "$room/tests" test original_
+    each_sort "the tests of the Rust crate" "$room/tests" test --lib original_
+    part "the documents of the Rust crate" in_folder "$room/tests" test --doc original_
 else
     left_out "surface and tests of the Rust crate" python3
 fi

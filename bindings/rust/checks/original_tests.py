@@ -18,6 +18,7 @@ LEFT_OUT = {
 }
 MODULE = re.compile(
     r"^( *)#\[cfg\((?:test|all\(test, .*\))\)\]\n(?:\1#\[.*\]\n)*\1mod \w+ \{\n.*?^\1\}\n", re.MULTILINE | re.DOTALL)
+ELSEWHERE = re.compile(r"#\[test\]\s*#\[cfg\(windows\)\]|#\[cfg\(windows\)\]\s*#\[test\]")
 FUNCTION = re.compile(r"^(?:#\[.*\]\n)*#\[test\]\n(?:#\[.*\]\n)*fn .*?^\}\n", re.MULTILINE | re.DOTALL)
 COMMENT = re.compile(r"(?:^ *//[/!](?: .*)?\n)+", re.MULTILINE)
 SCOPE = """    #[allow(unused_imports)]
@@ -65,6 +66,9 @@ def tests_of(file, text):
         count = sum(cut[0].count("#[test]") for it in found for cut in pattern.finditer(it))
         print(f"left out: {count} of src/{file}, which test {reason}")
         found = [pattern.sub("", it) for it in found]
+    count = sum(len(ELSEWHERE.findall(it)) for it in found)
+    if count:
+        print(f"left out: {count} of src/{file}, which are compiled for Windows alone")
     return [it for it in found if "#[test]" in it]
 
 
