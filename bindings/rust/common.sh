@@ -1,6 +1,9 @@
 # shellcheck shell=bash
 # What the scripts of this folder share. It is sourced, where `here` is this folder and `room` a new one.
 : "${here:?}" "${room:?}"
+if [[ ${TYPED_PATH_CRATE:-} ]]; then
+    TYPED_PATH_CRATE=$(cd "$TYPED_PATH_CRATE" && pwd) || exit 2
+fi
 
 # The packages of Debian stand for a registry, and nothing is fetched.
 packages=/usr/share/cargo/registry

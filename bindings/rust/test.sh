@@ -134,18 +134,23 @@ else
     left_out "its own tests in valgrind" valgrind
 fi
 
-# The programs: each stands over this crate, and over the other one by another line of its Cargo.toml.
+# The programs: each stands over this crate, and over the Rust crate by another line of its Cargo.toml. Over what has
+# the name of that one a program stands by a patch, as those do that take it through another crate.
 runs_over() {
     local folder=$room/$1_$2
     cp -R "$crate/programs/$1" "$folder"
-    sed -i "s|^typed-path = .*|typed-path = { $3 }|" "$folder/Cargo.toml"
+    sed -i "s|^typed-path = .*|typed-path = $3|" "$folder/Cargo.toml"
     [[ $(diff "$crate/programs/$1/Cargo.toml" "$folder/Cargo.toml" | grep -c '^>') -eq 1 ]] || return 1
+    [[ $# -eq 3 ]] || printf '%s\n' "${@:4}" >> "$folder/Cargo.toml"
     in_folder "$folder" test
 }
 for program in unpack serve; do
-    part "$program over this crate" runs_over $program this "package = \"typed-path-proved\", path = \"$crate\""
+    part "$program over this crate" \
+        runs_over $program this "{ package = \"typed-path-proved\", path = \"$crate\" }"
+    part "$program by a patch" \
+        runs_over $program patched '"0.13"' '[patch.crates-io]' "typed-path = { path = \"$crate/patch\" }"
     if [[ ${TYPED_PATH_CRATE:-} ]]; then
-        part "$program over the Rust crate" runs_over $program original "path = \"$TYPED_PATH_CRATE\""
+        part "$program over the Rust crate" runs_over $program original "{ path = \"$TYPED_PATH_CRATE\" }"
     fi
 done
 part "the times are taken" "$here/bench/run.sh" "$dir" 1
