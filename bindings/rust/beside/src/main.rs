@@ -66,10 +66,25 @@ const PIECES: [&str; 42] = [
     "share", "con", "NUL.txt", "lpt9.", "com10", "tar.gz", "\0", "|", " ", "\u{e9}", "日本",
 ];
 
+/// What one path of four begins with.
+const PREFIXES: [&str; 8] = [
+    "\\\\?\\C:",
+    "\\\\?\\UNC\\server\\share",
+    "\\\\?\\name",
+    "\\\\.\\device",
+    "\\\\server\\share",
+    "//?/c:",
+    "//server/share",
+    "C:",
+];
+
 /// A path of some pieces, now and then with a byte changed to any.
 fn chosen(numbers: &mut Numbers) -> Vec<u8> {
     let most = if numbers.below(8) == 0 { 40 } else { 9 };
     let mut path = Vec::new();
+    if numbers.below(4) == 0 {
+        path.extend_from_slice(PREFIXES[numbers.below(PREFIXES.len())].as_bytes());
+    }
     for _ in 0..numbers.below(most) {
         path.extend_from_slice(PIECES[numbers.below(PIECES.len())].as_bytes());
     }
@@ -101,46 +116,60 @@ fn short() -> impl Iterator<Item = Vec<u8>> {
     })
 }
 
+/// How often each call differed, and the shortest pair of paths that shows it.
+#[derive(Default)]
+struct Differences(BTreeMap<(&'static str, &'static str), (u64, String)>);
+
+impl Differences {
+    fn add(&mut self, call: (&'static str, &'static str), paths: [&[u8]; 2], answers: [&str; 2]) {
+        let ([path, other], [theirs, ours]) = (paths.map(<[u8]>::escape_ascii), answers);
+        let shown = format!("of \"{path}\" and \"{other}\" the crate answers {theirs}, this one {ours}");
+        let (count, shortest) = self.0.entry(call).or_default();
+        *count += 1;
+        if shortest.is_empty() || shown.len() < shortest.len() {
+            *shortest = shown;
+        }
+    }
+
+    /// Adds what differs of the answers about a pair of paths, and how many answers there were.
+    fn compare(&mut self, paths: [&[u8]; 2], theirs: Told, ours: Told) -> u64 {
+        let counts = [&theirs, &ours].map(|told| told.answers.len());
+        if counts[0] != counts[1] {
+            let [theirs, ours] = counts.map(|it| it.to_string());
+            self.add(("all", "how many answers there are"), paths, [&theirs, &ours]);
+        }
+        for ((part, call, theirs), (_, _, ours)) in theirs.answers.iter().zip(&ours.answers) {
+            if theirs != ours {
+                self.add((part, call), paths, [theirs, ours]);
+            }
+        }
+        counts[0] as u64
+    }
+}
+
 fn main() -> ExitCode {
     let mut words = std::env::args().skip(1).map(|word| word.parse::<u64>().expect("a number"));
     let (wanted, seed) = (words.next().expect("how many answers are wanted"), words.next().unwrap_or(1));
-    let mut numbers = Numbers(seed);
-    let mut first = short();
-    let (mut pairs, mut answers, mut wrong) = (0, 0, 0);
-    let mut found: BTreeMap<_, (u64, String)> = BTreeMap::new();
+    let (mut numbers, mut first, mut found) = (Numbers(seed), short(), Differences::default());
     let (mut theirs, mut ours) = (Told::default(), Told::default());
     of_mended::fixed(&mut theirs);
     of_this::fixed(&mut ours);
+    let (mut pairs, mut answers) = (0, found.compare([b"", b""], theirs, ours));
     while answers < wanted {
-        let path = first.next().unwrap_or_else(|| chosen(&mut numbers));
+        // The short ones at every other turn.
+        let path = if pairs % 2 == 0 { first.next() } else { None };
+        let path = path.unwrap_or_else(|| chosen(&mut numbers));
         let (other, ends) = (beside(&path, &mut numbers), numbers.next());
+        let (mut theirs, mut ours) = (Told::default(), Told::default());
         of_mended::answers(&mut theirs, &path, &other, ends);
         of_this::answers(&mut ours, &path, &other, ends);
+        answers += found.compare([&path, &other], theirs, ours);
         pairs += 1;
-        answers += theirs.answers.len() as u64;
-        let mut differ = |part, call, theirs: String, ours: String| {
-            wrong += 1;
-            let (count, shortest) = found.entry((part, call)).or_default();
-            *count += 1;
-            let pair = format!("\"{}\" and \"{}\"", path.escape_ascii(), other.escape_ascii());
-            let shown = format!("of {pair} the crate answers {theirs}, this one {ours}");
-            if shortest.is_empty() || shown.len() < shortest.len() {
-                *shortest = shown;
-            }
-        };
-        if theirs.answers.len() != ours.answers.len() {
-            let [theirs, ours] = [&theirs, &ours].map(|told| told.answers.len().to_string());
-            differ("all", "how many answers there are", theirs, ours);
-        }
-        for ((part, call, theirs), (_, _, ours)) in theirs.answers.drain(..).zip(ours.answers.drain(..)) {
-            if theirs != ours {
-                differ(part, call, theirs, ours);
-            }
-        }
     }
-    for ((part, call), (count, shortest)) in found {
+    for ((part, call), (count, shortest)) in &found.0 {
         println!("{part}, {call}: {count} differ, as {shortest}");
     }
+    let wrong: u64 = found.0.values().map(|(count, _)| count).sum();
     println!("{answers} answers about {pairs} pairs of paths, {wrong} wrong");
     ExitCode::from(u8::from(wrong > 0))
 }
