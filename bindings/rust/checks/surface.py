@@ -1,7 +1,7 @@
 #!/usr/bin/env python3
 """Compares the public surfaces of two crates, which rustdoc tells as JSON: items, signatures, traits and bounds.
 
-surface.py ORIGINAL CRATE: prints what CRATE lacks, then what it has beside, and how many lines it lacks. The names
+surface.py ORIGINAL CRATE: prints what CRATE has beside, then what it lacks, and how many lines that are. The names
 of parameters, sealed traits and blanket impls do not count, and lifetimes are named by their order in a line.
 """
 
@@ -212,10 +212,10 @@ class Surface:
 def main(original, crate):
     theirs, ours = Surface(original).lines, Surface(crate).lines
     lacking = [line for line in sorted(theirs - ours) if looser(line) not in ours]
-    for line in lacking:
-        print(f"lacks: {line}")
     for line in sorted(ours - theirs):
         print(f"has beside: {line}")
+    for line in lacking:
+        print(f"lacks: {line}")
     print(f"{len(theirs)} lines, {len(lacking)} wrong")
     return bool(lacking) or not theirs
 
