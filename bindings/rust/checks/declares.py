@@ -18,8 +18,9 @@ from exports import MARK, declared  # noqa: E402
 UNUSED = {
     "typed_path_absolutize_from", "typed_path_components", "typed_path_component_at", "typed_path_hash",
     "typed_path_hash_keyed", "typed_path_kind_text", "typed_path_join_checked", "typed_path_join_portable",
-    "typed_path_join_checked_batch", "typed_path_join_portable_batch", "typed_path_to_ascii_lowercase", "typed_path_starts_with_ignore_ascii_case",
-    "typed_path_equal_ignore_ascii_case", "typed_path_compare_ignore_ascii_case",
+    "typed_path_join_checked_batch", "typed_path_join_portable_batch", "typed_path_to_ascii_lowercase",
+    "typed_path_starts_with_ignore_ascii_case", "typed_path_equal_ignore_ascii_case",
+    "typed_path_compare_ignore_ascii_case",
 }
 STRUCTS = {
     "typed_path_span": "Span", "typed_path_component": "Placed", "typed_path_reading": "Reading",
