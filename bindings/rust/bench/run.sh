@@ -17,7 +17,8 @@ add() {
     sed -i "s|^\[dependencies\]$|&\n$2|" Cargo.toml
     features+=(--features "$1")
 }
-[[ -z ${TYPED_PATH_CRATE:-} ]] || add beside_crate "original = { package = \"typed-path\", path = \"$TYPED_PATH_CRATE\" }"
+[[ -z ${TYPED_PATH_CRATE:-} ]] ||
+    add beside_crate "original = { package = \"typed-path\", path = \"$TYPED_PATH_CRATE\" }"
 ! has_package camino || add beside_camino 'camino = "1"'
 export TYPED_PATH_DIR=$dir RUSTFLAGS="-C target-cpu=x86-64-v2"
 cargo build --quiet --release "${features[@]}" 2> "$room/said" || { cat "$room/said" >&2 && exit 1; }

@@ -4,7 +4,8 @@
 #
 # mend.sh SOURCE OUT
 set -euo pipefail
-[[ $# -eq 2 && -d $1/src/windows && ! -e $2 ]] || { echo "mend.sh: it takes the crate's folder and a new one" >&2 && exit 2; }
+[[ $# -eq 2 && -d $1/src/windows && ! -e $2 ]] ||
+    { echo "mend.sh: it takes the crate's folder and a new one" >&2 && exit 2; }
 cp -R -- "$1" "$2"
 cd -- "$2/src/windows"
 
@@ -18,7 +19,9 @@ edit() {
 
 for family in non_utf8 utf8; do
     edit $family/components.rs '/fn has_any_verbatim_prefix/,/^    }/ s/Prefix::\(UNC\|Disk\)(/Prefix::Verbatim\1(/g'
-    edit $family/components/component.rs '/fn is_valid/,/^    }/ s/Normal(\(\w*\)) => /&!crate::constants::windows::is_device(\1.as_ref()) \&\& /'
+    edit $family/components/component.rs '/fn is_valid/,/^    }/ {
+        s/Normal(\(\w*\)) => /&!crate::constants::windows::is_device(\1.as_ref()) \&\& /
+    }'
 done
 edit constants.rs '$ a\
 \
