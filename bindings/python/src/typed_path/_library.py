@@ -1,105 +1,24 @@
-"""The calls of the shared object, over bytes. Each raises what its status names."""
+"""The types of the package over `ctypes` and the shared object. The module of C has the same types, and its calls have
+these docstrings."""
 
 from __future__ import annotations
 
 import ctypes
 import itertools
+import operator
 import os
 import pathlib
-import sys
 from ctypes import POINTER, byref, c_bool, c_char, c_char_p, c_int32, c_size_t, c_uint32, c_uint64
-from typing import Any, Callable, NamedTuple, Optional, Sequence, TypeVar, Union
+from typing import TYPE_CHECKING, Any, Callable, ClassVar, Iterable, List, Optional, Tuple, TypeVar, Union
 
-Text = TypeVar("Text", str, bytes)
+from . import _errors
+from ._errors import DONE, ENCODINGS, ERRORS, INVALID_FILENAME, NONE, NOT_TEXT, UNIX, VERSION, WINDOWS
+
+Text = Union[str, bytes, "os.PathLike[str]", "os.PathLike[bytes]"]
+P = TypeVar("P", bound="Path")
 NAME = "libtyped_path.so.0.2"
-VERSION = 201
-UNIX, WINDOWS = 0, 1
-
-# What os.fsencode and os.fsdecode take.
-ENCODING, ERRORS = sys.getfilesystemencoding(), sys.getfilesystemencodeerrors()
-
-
-def keeps_backslashes(encoding: str) -> bool:
-    r"""Whether a `\` behind any other byte is one in text too. In Big5 and its like it may be half of a letter."""
-    return all(bytes((byte, 92)).decode(encoding, ERRORS).endswith("\\") for byte in range(128, 256))
-
-
-# What the text of a path of each dialect is read by.
-ENCODINGS = (ENCODING, ENCODING if keeps_backslashes(ENCODING) else "utf-8")
-
-
-class TypedPathError(ValueError):
-    """What a call of this package refuses, but for a `str` that no bytes stand for. `path` is what it was refused
-    for, as it was handed in, and `base` what that was to lie below or begin with, or None."""
-
-    def __init__(self, message: object = "", path: object = None, base: object = None) -> None:
-        super().__init__(message)
-        self.path, self.base = path, base
-
-
-class CheckedPathError(TypedPathError):
-    """A path was refused for its first component that offends. `path` is the path."""
-
-    message = "path was refused"
-
-    def __init__(self, path: object, judged: Optional[Judged] = None) -> None:
-        shown = path if isinstance(path, (str, bytes)) else str(path)
-        super().__init__(f"{self.message}: {shown!r}", path)
-        self._judged = judged
-
-    def __reduce__(self) -> tuple[object, ...]:
-        return type(self), (self.path,), self.__dict__
-
-    @property
-    def place(self) -> Optional[int]:
-        """How many components stand before the one that offends. None where no call has judged the path, as a `str`
-        that no bytes stand for."""
-        return None if self._judged is None else self._judged.place()
-
-    @property
-    def name(self) -> Optional[str]:
-        """The component that offends, or None, as `place`."""
-        return None if self._judged is None else self._judged.name()
-
-
-class InvalidFilename(CheckedPathError):
-    """A name is not allowed: it has a disallowed byte, on Windows stands for a device, or is a `str` without bytes."""
-
-    message = "path contains invalid filename"
-
-
-class PathTraversalAttack(CheckedPathError):
-    """No name before it makes up for a `..`."""
-
-    message = "path attempts to escape original path"
-
-
-class UnexpectedPrefix(CheckedPathError):
-    """There is a prefix of Windows, as a drive or a server."""
-
-    message = "path contains unexpected prefix"
-
-
-class UnexpectedRoot(CheckedPathError):
-    """There is a root."""
-
-    message = "path contains unexpected root"
-
-
-class NoRelativePath(TypedPathError):
-    """No relative path leads from the base to the path, or only one that begins with `..`."""
-
-
-class Ambiguous(TypedPathError):
-    """A path is absolute neither alone nor behind the directory."""
-
-
-DONE, INVALID_FILENAME, OUT_OF_MEMORY, NONE, AMBIGUOUS = 0, 1, 5, 8, 9
-REFUSALS = {INVALID_FILENAME: InvalidFilename, 2: PathTraversalAttack, 3: UnexpectedPrefix, 4: UnexpectedRoot}
-KINDS = (
-    "root", "current", "parent", "normal", "Verbatim", "VerbatimUNC", "VerbatimDisk", "DeviceNS", "UNC", "Disk",
-)
-PREFIXES = KINDS[4:]
+ROOT, PREFIX = 0, 4  # the kind of a root, and the least one of a prefix
+TOO_SMALL = 6
 
 
 class Span(ctypes.Structure):
@@ -135,77 +54,35 @@ def _call(name: str, *kinds: object) -> Callable[..., int]:
     return call
 
 
-derive = _call("derive", *_TEXT)
+_derive = _call("derive", *_TEXT)
 _puts = {
     **{name: _call(name, c_uint32, *_TEXT, *_TEXT, *_PUT)
-       for name in ("join", "join_checked", "with_file_name", "with_extension", "relative_to", "absolutize")},
+       for name in ("join", "join_checked", "join_portable", "resolve_checked", "with_file_name", "with_extension",
+                    "relative_to", "absolutize")},
     **{name: _call(name, c_uint32, *_TEXT, *_PUT) for name in ("normalize", "clean")},
     **{name: _call(name, c_uint32, *_TEXT, c_uint32, *_PUT) for name in ("convert", "convert_checked")},
 }
 _parts = {
     **{name: _call(name, c_uint32, *_TEXT, POINTER(Span))
-       for name in ("parent", "file_name", "file_stem", "extension")},
-    "strip_prefix": _call("strip_prefix", c_uint32, *_TEXT, *_TEXT, POINTER(Span)),
+       for name in ("parent", "file_name", "file_stem", "extension", "simplified")},
+    **{name: _call(name, c_uint32, *_TEXT, *_TEXT, POINTER(Span)) for name in ("strip_prefix", "common_ancestor")},
 }
 _questions = {
     **{name: _call(name, c_uint32, *_TEXT, POINTER(c_bool))
-       for name in ("is_absolute", "has_root", "is_valid", "keeps_prefix")},
+       for name in ("is_absolute", "has_root", "is_valid", "is_portable", "may_be_device", "keeps_prefix")},
     **{name: _call(name, c_uint32, *_TEXT, *_TEXT, POINTER(c_bool))
        for name in ("starts_with", "ends_with", "is_within", "equal")},
 }
+_judges = {name: _call(name, c_uint32, *_TEXT) for name in ("check", "check_portable")}
 _components = _call("components", c_uint32, *_TEXT, POINTER(Piece), c_size_t, POINTER(c_size_t))
 _component_at = _call("component_at", c_uint32, *_TEXT, c_size_t, POINTER(Piece))
 _compare = _call("compare", c_uint32, *_TEXT, *_TEXT, POINTER(c_int32))
 _hash = _call("hash_keyed", c_uint32, c_uint64, c_uint64, *_TEXT, POINTER(c_uint64))
-_batch = _call(
-    "join_checked_batch", c_uint32, *_TEXT, *_TEXT, POINTER(c_size_t), c_size_t, POINTER(c_char), c_size_t,
-    POINTER(c_size_t), c_size_t, POINTER(c_uint32), c_size_t, POINTER(c_size_t),
-)
-
-
-class Judged(NamedTuple):
-    """What a checked call has judged: a text of a dialect, as one of another where it converts."""
-
-    dialect: int
-    text: bytes
-    other: Optional[int]
-
-    def is_refused(self, end: int) -> bool:
-        """Whether the text up to there is refused."""
-        text = self.text[:end]
-        try:
-            if self.other is None:
-                made("join_checked", self.dialect, b"", text)
-            else:
-                made("convert_checked", self.dialect, text, self.other)
-        except CheckedPathError:
-            return True
-        return False
-
-    def place(self) -> int:
-        """The place of the component that offends. It ends the shortest beginning that is refused."""
-        ends = [it.start + it.length for it in _pieces(self.dialect, self.text)]
-        low, high = 0, len(ends) - 1
-        while low < high:
-            middle = (low + high) // 2
-            low, high = (low, middle) if self.is_refused(ends[middle]) else (middle + 1, high)
-        return low
-
-    def name(self) -> str:
-        """The text of that component."""
-        return component_at(self.dialect, self.text, self.place())[1].decode(ENCODINGS[self.dialect], ERRORS)
-
-
-def _failed(status: int, path: object, judged: Optional[Judged] = None, base: object = None) -> Exception:
-    if status in REFUSALS:
-        return REFUSALS[status](path, judged)
-    if status == OUT_OF_MEMORY:
-        return MemoryError()
-    if status == NONE:
-        return NoRelativePath(f"no relative path leads to {str(path)!r}", path, base)
-    if status == AMBIGUOUS:
-        return Ambiguous(f"path is ambiguous: {str(path)!r}", path)
-    return RuntimeError(f"status {status} of {path!r}")
+_batches = [
+    _call(name, c_uint32, *_TEXT, *_TEXT, POINTER(c_size_t), c_size_t, POINTER(c_char), c_size_t, POINTER(c_size_t),
+          c_size_t, POINTER(c_uint32), c_size_t, POINTER(c_size_t))
+    for name in ("join_checked_batch", "join_portable_batch")
+]
 
 
 def _words(other: object) -> tuple[object, ...]:
@@ -215,20 +92,19 @@ def _words(other: object) -> tuple[object, ...]:
     return (other, len(other)) if isinstance(other, bytes) else (other,)
 
 
-def made(
+def put(
     name: str, dialect: int, path: bytes, other: Union[bytes, int, None] = None, told: object = None,
     base: object = None,
 ) -> bytes:
-    """What a call puts. No answer has four bytes more than the path and twice the other text. `told` is what a refusal
+    """What a call puts. No answer has five bytes more than the path and twice the other text. `told` is what a refusal
     tells of, and `base` what that was to lie below."""
-    words = _words(other)
-    size = len(path) + (2 * len(other) if isinstance(other, bytes) else 0) + 4
+    size = len(path) + (2 * len(other) if isinstance(other, bytes) else 0) + 5
     out: Any = ctypes.create_string_buffer(size)
     length = c_size_t()
-    status = _puts[name](dialect, path, len(path), *words, out, size, byref(length))
+    status = _puts[name](dialect, path, len(path), *_words(other), out, size, byref(length))
     if status != DONE:
-        judged = Judged(dialect, other, None) if isinstance(other, bytes) else Judged(dialect, path, other)
-        raise _failed(status, told, judged, base)
+        judged = (other, None) if isinstance(other, bytes) else (path, other)
+        raise _errors.failed(status, told, dialect, *judged, base)
     answer: bytes = out[:length.value]
     return answer
 
@@ -236,11 +112,8 @@ def made(
 def part(name: str, dialect: int, path: bytes, other: Optional[bytes] = None) -> Optional[bytes]:
     """The part that a call lends, or None where there is none."""
     span = Span()
-    status = _parts[name](dialect, path, len(path), *_words(other), byref(span))
-    if status == NONE:
+    if _parts[name](dialect, path, len(path), *_words(other), byref(span)) != DONE:
         return None
-    if status != DONE:
-        raise _failed(status, path)
     return path[span.start:span.start + span.length]
 
 
@@ -249,46 +122,13 @@ def asked(name: str, dialect: int, path: bytes, other: Optional[bytes] = None) -
     answer = c_bool()
     status = _questions[name](dialect, path, len(path), *_words(other), byref(answer))
     if status != DONE:
-        raise _failed(status, path)
+        raise _errors.failed(status, path, dialect, path, None, None)
     return answer.value
 
 
-def _pieces(dialect: int, path: bytes) -> Sequence[Piece]:
-    pieces, count = (Piece * len(path))(), c_size_t()
-    status = _components(dialect, path, len(path), pieces, len(path), byref(count))
-    if status != DONE:
-        raise _failed(status, path)
-    return pieces[:count.value]
-
-
-def components(dialect: int, path: bytes) -> list[tuple[str, bytes]]:
-    """The kind and the bytes of each component."""
-    return [(KINDS[it.kind], path[it.start:it.start + it.length]) for it in _pieces(dialect, path)]
-
-
-def component_at(dialect: int, path: bytes, place: int) -> tuple[str, bytes]:
-    """The kind and the bytes of one of them; both are empty where there is none."""
-    piece = Piece()
-    status = _component_at(dialect, path, len(path), place, byref(piece))
-    if status == NONE:
-        return "", b""
-    if status != DONE:
-        raise _failed(status, path)
-    return KINDS[piece.kind], path[piece.start:piece.start + piece.length]
-
-
-def is_name(dialect: int, text: bytes) -> bool:
-    """Whether a text is read as one name, and is that."""
-    return components(dialect, text) == [("normal", text)]
-
-
-def compare(dialect: int, path: bytes, other: bytes) -> int:
-    """-1, 0 or 1."""
-    order = c_int32()
-    status = _compare(dialect, path, len(path), other, len(other), byref(order))
-    if status != DONE:
-        raise _failed(status, path)
-    return order.value
+def derive(path: bytes) -> int:
+    """The number of the dialect that a text looks like."""
+    return _derive(path, len(path))
 
 
 # Each process draws its own, so no one can choose paths that have one hash.
@@ -300,39 +140,612 @@ def hashed(dialect: int, path: bytes, key: tuple[int, ...] = KEY) -> int:
     number = c_uint64()
     status = _hash(dialect, *key, path, len(path), byref(number))
     if status != DONE:
-        raise _failed(status, path)
+        raise _errors.failed(status, path, dialect, path, None, None)
     return number.value
 
 
-class Joined(NamedTuple):
-    """The status of each name, where each answer ends, and the answers behind each other."""
+class Path:
+    """What `UnixPath` and `WindowsPath` share."""
 
-    statuses: list[int]
-    ends: list[int]
-    answers: bytes
+    __slots__ = ("_bytes",)
+    _dialect: ClassVar[int]
+    _separator: ClassVar[str]
+    _bytes: bytes
 
-    def targets(self, answers: Text) -> list[Optional[Text]]:
-        """The answers of the names, cut from all of them; None where a name was refused."""
-        places = zip(self.statuses, [0, *self.ends], self.ends)
-        return [None if status else answers[start:end] for status, start, end in places]
+    def __init__(self, *segments: Text) -> None:
+        """The path of the first text, with the others pushed onto it one by one. Called again it changes nothing."""
+        if not hasattr(self, "_bytes"):
+            _put(self, self._pushed(*segments))
 
-    def refusals(self) -> dict[int, type[CheckedPathError]]:
-        """Those of the names that were refused, by their places."""
-        return {at: REFUSALS[status] for at, status in enumerate(self.statuses) if status}
+    def _pushed(self, path: Text = b"", *others: Text) -> bytes:
+        made = self._read(path)
+        for other in others:
+            made = put("join", self._dialect, made, self._read(other))
+        return made
+
+    if not TYPE_CHECKING:  # which would take it that any attribute may be set
+
+        def __setattr__(self, name, value):
+            self._refuse_change(name)
+            super().__setattr__(name, value)
+
+        def __delattr__(self, name):
+            self._refuse_change(name)
+            super().__delattr__(name)
+
+    def _refuse_change(self, name: str) -> None:
+        if name in ("_bytes", "__class__"):
+            raise AttributeError(f"{self!r} never changes")
+
+    def _read(self, text: Text) -> bytes:
+        """The bytes that a text stands for."""
+        if isinstance(text, Path):
+            if text._dialect != self._dialect:
+                raise _errors.of_other_dialect(text)
+            return text._bytes
+        given = os.fspath(text)
+        return given if isinstance(given, bytes) else given.encode(ENCODINGS[self._dialect], ERRORS)
+
+    def _read_checked(self, text: Text, unwritten: int) -> bytes:
+        """The same. A `str` that no bytes stand for is refused as a name of that status."""
+        try:
+            return self._read(text)
+        except UnicodeEncodeError:
+            raise _errors.unwritten(unwritten, text) from None
+
+    def _text(self, raw: bytes) -> str:
+        """The text that bytes stand for."""
+        return raw.decode(ENCODINGS[self._dialect], ERRORS)
+
+    @classmethod
+    def _of(cls: type[P], made: bytes) -> P:
+        if not hasattr(cls, "_dialect"):
+            raise _errors.not_a_path()
+        path = object.__new__(cls)
+        _put(path, made)
+        return path
+
+    def with_segments(self: P, *segments: Text) -> P:
+        """A path of the class of this one, of these joined. Whatever a call makes of this path is made by it, so a
+        subclass that has attributes hands them on here, as in `pathlib` since 3.12.
+
+        >>> class Noted(UnixPath):
+        ...     def __init__(self, *segments, note):
+        ...         super().__init__(*segments)
+        ...         self.note = note
+        ...     def with_segments(self, *segments):
+        ...         return type(self)(*segments, note=self.note)
+        >>> (Noted("a", note="mine") / "b").note
+        'mine'
+        """
+        path = object.__new__(type(self))
+        Path.__init__(path, *segments)
+        return path
+
+    def _like(self: P, made: bytes) -> P:
+        """A path of what a call has answered of this one."""
+        if type(self).with_segments is Path.with_segments:
+            return self._of(made)
+        return self.with_segments(made)
+
+    def _put(self: P, name: str, other: Optional[bytes] = None, told: object = None, base: object = None) -> P:
+        return self._like(put(name, self._dialect, self._bytes, other, told, base))
+
+    def _part(self, name: str) -> Optional[str]:
+        found = part(name, self._dialect, self._bytes)
+        return None if found is None else self._text(found)
+
+    def _asked(self, name: str, *others: Text) -> bool:
+        return asked(name, self._dialect, self._bytes, *map(self._read, others))
+
+    def __str__(self) -> str:
+        return self._text(self._bytes)
+
+    def __bytes__(self) -> bytes:
+        return self._bytes
+
+    def __fspath__(self) -> str:
+        return os.fsdecode(self._bytes)
+
+    def __eq__(self, other: object) -> bool:
+        if not isinstance(other, Path) or other._dialect != self._dialect:
+            return NotImplemented
+        return self._bytes == other._bytes or self._asked("equal", other)
+
+    def __hash__(self) -> int:
+        return hash((self._dialect, hashed(self._dialect, self._bytes)))
+
+    def _compared(self, other: object, holds: Callable[[int, int], bool]) -> bool:
+        """Whether this holds of the order, which is -1, 0 or 1, and 0."""
+        if not isinstance(other, Path) or other._dialect != self._dialect:
+            return NotImplemented
+        order = c_int32()
+        status = _compare(
+            self._dialect, self._bytes, len(self._bytes), other._bytes, len(other._bytes), byref(order)
+        )
+        if status != DONE:
+            raise _errors.failed(status, self, self._dialect, self._bytes, None, None)
+        return holds(order.value, 0)
+
+    def __lt__(self, other: object) -> bool:
+        return self._compared(other, operator.lt)
+
+    def __le__(self, other: object) -> bool:
+        return self._compared(other, operator.le)
+
+    def __gt__(self, other: object) -> bool:
+        return self._compared(other, operator.gt)
+
+    def __ge__(self, other: object) -> bool:
+        return self._compared(other, operator.ge)
+
+    def __truediv__(self: P, other: Text) -> P:
+        if not isinstance(other, (str, bytes, os.PathLike)):
+            return NotImplemented
+        return self.join(other)
+
+    def __rtruediv__(self: P, other: Text) -> P:
+        if not isinstance(other, (str, bytes, os.PathLike)):
+            return NotImplemented
+        return self._like(put("join", self._dialect, self._read(other), self._bytes))
+
+    @property
+    def name(self) -> str:
+        """The last component if it is a name, else nothing.
+
+        >>> UnixPath("/a/b.tar.gz/").name, UnixPath("a/..").name
+        ('b.tar.gz', '')
+        """
+        return self._part("file_name") or ""
+
+    @property
+    def stem(self) -> str:
+        """The name up to its last dot; a dot at the front is part of it.
+
+        >>> UnixPath("b.tar.gz").stem, UnixPath(".bashrc").stem
+        ('b.tar', '.bashrc')
+        """
+        return self._part("file_stem") or ""
+
+    @property
+    def extension(self) -> Optional[str]:
+        """What stands behind that dot, or None.
+
+        >>> UnixPath("b.tar.gz").extension, UnixPath("a.").extension, UnixPath("a").extension
+        ('gz', '', None)
+        """
+        return self._part("extension")
+
+    @property
+    def suffix(self) -> str:
+        """The extension with its dot, or nothing.
+
+        >>> UnixPath("b.tar.gz").suffix, UnixPath("a").suffix
+        ('.gz', '')
+        """
+        extension = self.extension
+        return "" if extension is None else f".{extension}"
+
+    @property
+    def suffixes(self) -> list[str]:
+        """The suffix of the name, before it that of its stem, and so on: each dot begins one but the first byte.
+
+        >>> UnixPath("b.tar.gz").suffixes, UnixPath(".bashrc").suffixes
+        (['.tar', '.gz'], [])
+        """
+        others = self.name[1:].split(".")[1:]
+        return [f".{other}" for other in others]
+
+    @property
+    def drive(self) -> str:
+        r"""The prefix, as it is written, or nothing.
+
+        >>> WindowsPath(r"C:\a").drive, WindowsPath("//server/share/a").drive, UnixPath("/a").drive
+        ('C:', '//server/share', '')
+        """
+        kind, start, length = self._piece_at(0)
+        return self._text(self._bytes[start:start + length]) if kind >= PREFIX else ""
+
+    @property
+    def root(self) -> str:
+        r"""The separator that is a root, alone or behind a prefix, or nothing.
+
+        >>> WindowsPath("C:/a").root, WindowsPath("C:a").root, UnixPath("/a").root
+        ('\\', '', '/')
+        """
+        return self._separator if ROOT in (self._piece_at(0)[0], self._piece_at(1)[0]) else ""
+
+    def _piece_at(self, place: int) -> tuple[int, int, int]:
+        """The kind, the first byte and the number of bytes of a component; its kind is -1 where there is none."""
+        piece = Piece()
+        if _component_at(self._dialect, self._bytes, len(self._bytes), place, byref(piece)) != DONE:
+            return -1, 0, 0
+        return piece.kind, piece.start, piece.length
+
+    @property
+    def anchor(self) -> str:
+        r"""The drive and the root. Where there is either, it is the first part.
+
+        >>> WindowsPath("C:/a").anchor, UnixPath("a").anchor
+        ('C:\\', '')
+        """
+        return self.drive + self.root
+
+    @property
+    def parent(self: P) -> P:
+        r"""The path without its last component. A root, a prefix but a drive, and an empty path are their own.
+
+        >>> UnixPath("/a/b//").parent, UnixPath("/").parent, UnixPath("a").parent
+        (UnixPath('/a'), UnixPath('/'), UnixPath(''))
+        """
+        found = part("parent", self._dialect, self._bytes)
+        return self if found is None else self._like(found)
+
+    @property
+    def parents(self: P) -> tuple[P, ...]:
+        """The parent, the parent of that, and so on.
+
+        >>> UnixPath("/a/b").parents
+        (UnixPath('/a'), UnixPath('/'))
+        """
+        above: list[P] = []
+        found = part("parent", self._dialect, self._bytes)
+        while found is not None:
+            above.append(self._like(found))
+            found = part("parent", self._dialect, found)
+        return tuple(above)
+
+    def _pieces(self) -> list[tuple[int, int, int]]:
+        """The kind, the first byte and the number of bytes of each component."""
+        size = len(self._bytes)
+        pieces, count = (Piece * size)(), c_size_t()
+        status = _components(self._dialect, self._bytes, size, pieces, size, byref(count))
+        if status != DONE:
+            raise _errors.failed(status, self, self._dialect, self._bytes, None, None)
+        return [(it.kind, it.start, it.length) for it in pieces[:count.value]]
+
+    @property
+    def parts(self) -> tuple[str, ...]:
+        r"""The texts of the components. A prefix and the root behind it are one part.
+
+        >>> UnixPath("/a//b/.").parts, WindowsPath("C:/a/b").parts
+        (('/', 'a', 'b'), ('C:\\', 'a', 'b'))
+        """
+        found: list[str] = []
+        for kind, start, length in self._pieces():
+            if kind != ROOT:
+                found.append(self._text(self._bytes[start:start + length]))
+            elif found:
+                found[0] += self._separator
+            else:
+                found.append(self._separator)
+        return tuple(found)
+
+    def as_posix(self) -> str:
+        r"""The text with each separator written `/`.
+
+        >>> WindowsPath(r"C:\a\b").as_posix(), UnixPath(r"a\b").as_posix()
+        ('C:/a/b', 'a\\b')
+        """
+        return str(self).replace(self._separator, "/")
+
+    def is_absolute(self) -> bool:
+        r"""Whether it leads to one place from every directory.
+
+        >>> UnixPath("/a").is_absolute(), WindowsPath(r"C:\a").is_absolute(), WindowsPath(r"\a").is_absolute()
+        (True, True, False)
+        """
+        return self._asked("is_absolute")
+
+    def has_root(self) -> bool:
+        """Whether it begins with a root, written or implied by a prefix."""
+        return self._asked("has_root")
+
+    def is_valid(self) -> bool:
+        """Whether each name is allowed. Versions of Windows take more names for devices than are refused here: those
+        with spaces behind, `CONIN$` and `CONOUT$`, and `COM` and `LPT` with `¹`, `²` or `³`.
+
+        >>> WindowsPath("a/con.txt").is_valid(), UnixPath("a/con.txt").is_valid()
+        (False, True)
+        >>> [WindowsPath(it).is_valid() for it in ("nul ", "con .txt", "CONIN$", "conout$.txt", "COM¹", "lpt².x")]
+        [True, True, True, True, True, True]
+        """
+        return self._asked("is_valid")
+
+    def is_portable(self) -> bool:
+        """Whether every system takes each component as it is written: `check_portable` says why not. Roots, `.` and
+        `..` are let through.
+
+        >>> UnixPath("a/b.txt").is_portable(), UnixPath("a/b:c").is_portable(), UnixPath("../a").is_portable()
+        (True, False, True)
+        """
+        return self._asked("is_portable")
+
+    def may_be_device(self) -> bool:
+        r"""Whether some version of Windows may take a name for a device, by the widest rule. A path of Unix has its own
+        names: of `a\nul` ask both dialects.
+
+        >>> WindowsPath(r"a\nul .txt").may_be_device(), UnixPath("com1").may_be_device(), UnixPath("a").may_be_device()
+        (True, True, False)
+        """
+        return self._asked("may_be_device")
+
+    def _check(self) -> int:
+        """The status of what a checked join refuses this path for."""
+        return _judges["check"](self._dialect, self._bytes, len(self._bytes))
+
+    def _check_portable(self) -> int:
+        """The status of why it is not portable."""
+        return _judges["check_portable"](self._dialect, self._bytes, len(self._bytes))
+
+    def starts_with(self, base: Text) -> bool:
+        """Whether it begins with the components of the base, as they are written. No check of containment."""
+        return self._asked("starts_with", base)
+
+    def ends_with(self, end: Text) -> bool:
+        """Whether it ends with the components of the other, as they are written."""
+        return self._asked("ends_with", end)
+
+    def is_within(self, base: Text) -> bool:
+        r"""Whether it lies at the base or below it, from whatever directory both are read. It judges names that no file
+        has, so ask `is_valid` too.
+
+        >>> UnixPath("a/b").is_within("a"), UnixPath("a/../b").is_within("a")
+        (True, False)
+        >>> WindowsPath(r"C:\srv\con").is_within(r"C:\srv"), WindowsPath(r"C:\srv\con").is_valid()
+        (True, False)
+        """
+        return self._asked("is_within", base)
+
+    def keeps_prefix(self) -> bool:
+        r"""True only if every accepted join onto it has its prefix. Of these a checked join lies within its base.
+
+        >>> WindowsPath(r"C:\a").keeps_prefix(), WindowsPath(r"\\s").keeps_prefix()
+        (True, False)
+        """
+        return self._asked("keeps_prefix")
+
+    def strip_prefix(self: P, base: Text) -> P:
+        """What is left behind the base. Raises `StripPrefixError`, a `ValueError`, where it does not begin with it.
+
+        >>> UnixPath("/a/./b/c").strip_prefix("/a")
+        UnixPath('b/c')
+        """
+        found = part("strip_prefix", self._dialect, self._bytes, self._read(base))
+        if found is None:
+            raise _errors.not_a_beginning(self, base)
+        return self._like(found)
+
+    def common_ancestor(self: P, other: Text) -> P:
+        """The front of this path up to where the components end with which the other begins too, as they are written;
+        the empty path where the two begin with none alike. `os.path.commonpath` asks the same.
+
+        >>> UnixPath("/srv/www/a").common_ancestor("/srv/www/b/c"), UnixPath("a").common_ancestor("b")
+        (UnixPath('/srv/www'), UnixPath(''))
+        """
+        return self._like(part("common_ancestor", self._dialect, self._bytes, self._read(other)) or b"")
+
+    def simplified(self: P) -> P:
+        r"""The path of a verbatim drive of Windows without its `\\?\`, where that means the same to Windows; else this
+        path.
+
+        >>> WindowsPath(r"\\?\C:\a").simplified(), WindowsPath(r"\\?\C:\a\con").simplified()
+        (WindowsPath('C:\\a'), WindowsPath('\\\\?\\C:\\a\\con'))
+        """
+        return self._like(part("simplified", self._dialect, self._bytes) or b"")
+
+    def join(self: P, *others: Text) -> P:
+        """The path with the others pushed onto it one by one. `/` is the same. An absolute one replaces it; on Windows
+        one with a drive does so too, and one with a root replaces all but the drive."""
+        made = self
+        for other in others:
+            made = made._put("join", self._read(other))
+        return made
+
+    def joinpath(self: P, *others: Text) -> P:
+        """`join`, as `pathlib` calls it.
+
+        >>> UnixPath("/a").joinpath("b", "c")
+        UnixPath('/a/b/c')
+        """
+        return self.join(*others)
+
+    def join_checked(self: P, other: Text) -> P:
+        r"""The same of one path, which must not lead out: what it returns lies within this path, if that
+        `keeps_prefix`. Raises what the first component that offends is refused for, a `CheckedPathError`. A `str` that
+        `os.fsencode` refuses is no allowed name either. An empty path, `.` and `a/..` lead to this path itself. The
+        refusal has the component in `name`, and in `place` how many stand before it.
+
+        >>> UnixPath("/etc").join_checked("abc/../def")
+        UnixPath('/etc/abc/../def')
+        >>> UnixPath("/etc").join_checked("/sneaky")
+        Traceback (most recent call last):
+        typed_path.UnexpectedRoot: path contains unexpected root: '/sneaky'
+        >>> try:
+        ...     WindowsPath("out").join_checked(r"a\con.txt\b")
+        ... except InvalidFilename as refusal:
+        ...     refusal.name, refusal.place
+        ('con.txt', 1)
+        """
+        return self._put("join_checked", self._read_checked(other, INVALID_FILENAME), other)
+
+    def join_portable(self: P, other: Text) -> P:
+        """`join_checked` of a path that is portable too: every system takes each name as it is written, and no version
+        of Windows takes one for a device. Raises a `NotPortable` for one that is not, else what `join_checked` raises.
+        This path itself need not be portable.
+
+        >>> UnixPath("/srv").join_portable("2024/cat.png")
+        UnixPath('/srv/2024/cat.png')
+        >>> UnixPath("/srv").join_portable("a/nul.txt")
+        Traceback (most recent call last):
+        typed_path.MayBeDevice: path contains name that may be a device: 'a/nul.txt'
+        """
+        return self._put("join_portable", self._read_checked(other, NOT_TEXT), other)
+
+    def resolve_checked(self: P, other: Text) -> P:
+        """The clean path of a checked join, refused as that is, and within this path as that is.
+
+        >>> UnixPath("/srv").resolve_checked("a/./../b"), UnixPath("/srv").resolve_checked(".")
+        (UnixPath('/srv/b'), UnixPath('/srv'))
+        """
+        return self._put("resolve_checked", self._read_checked(other, INVALID_FILENAME), other)
+
+    def normalize(self: P) -> P:
+        r"""The path without `.`, and without `..` and the names that these take away; a `..` that finds no name
+        vanishes. Of Unix paths all that resolve alike have one. On Windows it may be on another drive: `clean` keeps
+        it.
+
+        >>> UnixPath("foo/bar//baz/./asdf/quux/..").normalize(), UnixPath("../a").normalize()
+        (UnixPath('foo/bar/baz/asdf'), UnixPath('a'))
+        >>> path = WindowsPath(r"C:\out\D:x")
+        >>> path.is_within(r"C:\out"), path.normalize(), path.clean()
+        (True, WindowsPath('D:x'), WindowsPath('C:\\out\\D:x'))
+        """
+        return self._put("normalize")
+
+    def clean(self: P) -> P:
+        """The path without `.`, doubled separators, and names that a `..` takes away. A relative path keeps the `..`
+        that it needs, and nothing is `.`.
+
+        >>> UnixPath("a/../../b//./c").clean(), UnixPath("a/..").clean()
+        (UnixPath('../b/c'), UnixPath('.'))
+        """
+        return self._put("clean")
+
+    def relative_to(self: P, base: Text, *, walk_up: bool = False) -> P:
+        """The names that lead from the base to this path; `.` where both lead alike. Raises `NoRelativePath`, a
+        `ValueError`, where it does not lie at the base or below it, or no relative path leads there. With `walk_up`
+        the path may begin with `..`, as `os.path.relpath` has it, and it is raised for the latter alone.
+
+        >>> UnixPath("/a/b/../c/d").relative_to("/a")
+        UnixPath('c/d')
+        >>> UnixPath("/a/../etc").relative_to("/a")
+        Traceback (most recent call last):
+        typed_path.NoRelativePath: '/a/../etc' does not lie below '/a'
+        >>> UnixPath("/a/../etc").relative_to("/a", walk_up=True)
+        UnixPath('../etc')
+        >>> UnixPath("a").relative_to("/", walk_up=True)
+        Traceback (most recent call last):
+        typed_path.NoRelativePath: no relative path leads to 'a'
+        """
+        found = put("relative_to", self._dialect, self._bytes, self._read(base), self, base)
+        if not walk_up and found.split(self._separator.encode(), 1)[0] == b"..":
+            raise _errors.not_below(self, base)
+        return self._like(found)
+
+    def is_relative_to(self, base: Text) -> bool:
+        """Whether `relative_to` returns a path. `is_within` is the question whether it lies within the base: it is
+        true also where no relative path leads there.
+
+        >>> UnixPath("/a/b").is_relative_to("/a"), UnixPath("/a/../etc").is_relative_to("/a")
+        (True, False)
+        >>> UnixPath("a").is_relative_to("/"), UnixPath("a").is_within("/")
+        (False, True)
+        """
+        try:
+            self.relative_to(base)
+        except _errors.NoRelativePath:
+            return False
+        return True
+
+    def _with_file_name(self: P, name: Text) -> P:
+        return self._put("with_file_name", self._read(name))
+
+    def _with_extension(self: P, extension: Text) -> P:
+        return self._put("with_extension", self._read(extension))
+
+    def _absolutize(self: P, directory: bytes) -> P:
+        return self._put("absolutize", directory, self)
+
+    def _convert(self, dialect: int, checks: bool) -> bytes:
+        """The bytes of the path as they are written in another dialect."""
+        return put("convert_checked" if checks else "convert", self._dialect, self._bytes, dialect, self)
+
+    def _batch(
+        self, names: Iterable[Union[str, bytes]], number: int, as_paths: bool
+    ) -> Tuple[List[Any], dict[int, int]]:
+        """What a call answers of each name, by its number: `join_checked`, `join_portable`, `resolve_checked`. The
+        targets are paths, or as the names are, and None where a name was refused; and the statuses of these."""
+        answers, refused, are_bytes = self._joined(names, number)
+        if as_paths:
+            return [None if it is None else self._like(it) for it in answers], refused
+        return [it if it is None or are_bytes else self._text(it) for it in answers], refused
+
+    def _batch_into(
+        self, names: Iterable[Union[str, bytes]], number: int, buffer: Any, end: bytes
+    ) -> Tuple[int, dict[int, int]]:
+        """The same behind each other in a buffer, each with an end: how many bytes were written, and the statuses."""
+        listed = list(names)
+        answers, refused, _ = self._joined(listed, number)
+        used = 0
+        with memoryview(buffer).cast("B") as into:
+            for place, answer in enumerate(answers):
+                if answer is not None:
+                    target = answer + end
+                    if len(target) > len(into) - used:
+                        raise _errors.too_small(listed[place], place)
+                    into[used:used + len(target)] = target
+                    used += len(target)
+        return used, refused
+
+    def _joined(
+        self, names: Iterable[Union[str, bytes]], number: int
+    ) -> Tuple[List[Optional[bytes]], dict[int, int], bool]:
+        """The answers of many names, the statuses of those that are refused, and whether they are bytes."""
+        listed, texts, refused = list(names), [], {}
+        are_bytes = bool(listed) and isinstance(listed[0], bytes)
+        for place, name in enumerate(listed):
+            if not isinstance(name, bytes if are_bytes else str):
+                raise TypeError("names have to be all str, or all bytes")
+            try:
+                texts.append(self._read(name))
+            except UnicodeEncodeError:
+                texts.append(b"")
+                refused[place] = NOT_TEXT if number == 1 else INVALID_FILENAME
+        joined = self._joined_one_by_one(texts) if number == 2 else self._joined_at_once(texts, number)
+        for place, (status, _) in enumerate(joined):
+            if status != DONE:
+                refused.setdefault(place, status)
+        return [None if place in refused else it for place, (_, it) in enumerate(joined)], refused, are_bytes
+
+    def _joined_one_by_one(self, texts: list[bytes]) -> List[Tuple[int, bytes]]:
+        found = []
+        for text in texts:
+            try:
+                found.append((DONE, put("resolve_checked", self._dialect, self._bytes, text)))
+            except _errors.CheckedPathError as refusal:
+                found.append((refusal._judged.status if refusal._judged else NONE, b""))
+        return found
+
+    def _joined_at_once(self, texts: list[bytes], number: int) -> List[Tuple[int, bytes]]:
+        count, all_names = len(texts), b"".join(texts)
+        size = len(all_names) + count * (len(self._bytes) + 3)
+        ends = (c_size_t * count)(*itertools.accumulate(map(len, texts)))
+        out: Any = ctypes.create_string_buffer(size + 1)
+        out_ends, statuses, done = (c_size_t * count)(), (c_uint32 * count)(), c_size_t()
+        status = _batches[number](
+            self._dialect, self._bytes, len(self._bytes), all_names, len(all_names), ends, count, out, size, out_ends,
+            count, statuses, count, byref(done),
+        )
+        if status != DONE:
+            raise _errors.failed(status, self, self._dialect, self._bytes, None, None)
+        ends_of, answers = out_ends[:], out[:out_ends[count - 1]] if count else b""
+        return [(status, answers[start:end]) for status, start, end in zip(statuses, [0, *ends_of], ends_of)]
 
 
-def join_checked_batch(dialect: int, base: bytes, names: Sequence[bytes]) -> Joined:
-    """Checked joins of many names onto one base, in one call."""
-    count, all_names = len(names), b"".join(names)
-    size = len(all_names) + count * (len(base) + 3)
-    ends = (c_size_t * count)(*itertools.accumulate(map(len, names)))
-    out: Any = ctypes.create_string_buffer(size + 1)
-    done = c_size_t()
-    out_ends, statuses = (c_size_t * count)(), (c_uint32 * count)()
-    status = _batch(
-        dialect, base, len(base), all_names, len(all_names), ends, count, out, size, out_ends, count, statuses, count,
-        byref(done),
-    )
-    if status != DONE:
-        raise _failed(status, base)
-    return Joined(statuses[:], out_ends[:], out[:out_ends[count - 1]] if count else b"")
+# The one thing that sets the bytes of a path, which is new.
+_put: Callable[[Path, bytes], None] = Path.__dict__["_bytes"].__set__
+
+
+class Unix(Path):
+    """Paths of Unix."""
+
+    __slots__ = ()
+    _dialect, _separator = UNIX, "/"
+
+
+class Windows(Path):
+    r"""Paths of Windows. Where a letter of the names of files may hold a `\`, as in Big5, its text is UTF-8."""
+
+    __slots__ = ()
+    _dialect, _separator = WINDOWS, "\\"

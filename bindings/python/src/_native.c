@@ -1,0 +1,1614 @@
+/* The module typed_path._native: the types Path, Unix and Windows of `_library.py`, as a module of C over the archive.
+
+   `_library.py` describes each call; `docs.h` is made of its docstrings by wheel_of.py. The module is compiled for the
+   limited API of Python 3.8, so one file serves each later Python. It has no state but what is the same in each
+   interpreter of a process: a key for hashes, and what the text of paths is encoded by. So interpreters may have a lock
+   each. A type is known by the function that makes its objects, since a module of 3.8 cannot be asked of a type. */
+#define PY_SSIZE_T_CLEAN
+#ifndef Py_LIMITED_API
+#define Py_LIMITED_API 0x03080000
+#endif
+#include <Python.h>
+#include <pthread.h>
+#include <string.h>
+#include <typed_path.h>
+#include <unistd.h>
+
+#include "docs.h"
+
+/* What each CPython from 3.8 on has alike, and the limited API names only from 3.10 and 3.11 on. */
+#ifndef METH_FASTCALL
+#define METH_FASTCALL 0x0080
+#endif
+#if Py_LIMITED_API + 0 < 0x030a0000
+PyAPI_FUNC(const char *) PyUnicode_AsUTF8AndSize(PyObject *text, Py_ssize_t *len);
+#endif
+#if Py_LIMITED_API + 0 < 0x030b0000
+typedef struct {
+    void *buf;
+    PyObject *obj;
+    Py_ssize_t len, itemsize;
+    int readonly, ndim;
+    char *format;
+    Py_ssize_t *shape, *strides, *suboffsets;
+    void *internal;
+} Py_buffer;
+PyAPI_FUNC(int) PyObject_GetBuffer(PyObject *from, Py_buffer *buffer, int flags);
+PyAPI_FUNC(void) PyBuffer_Release(Py_buffer *buffer);
+#define PyBUF_WRITABLE 1
+#endif
+
+#define ROOM 1024          /* what an answer has on the stack; a longer one is put into memory of its own */
+#define NAMES_AT_ONCE 65536 /* how many names of a batch are joined while the lock of Python is let go */
+
+/* What the text of a path is encoded by in each dialect, as _errors.py says; and the key of all hashes. */
+static char encodings[2][64], errors[64];
+static bool is_utf8[2];
+static uint64_t key[2];
+static bool has_key;
+static pthread_once_t key_once = PTHREAD_ONCE_INIT;
+
+static const char *const separators[2] = {"/", "\\"};
+
+/* A path: its bytes, and where they stand. The hash, the text and the parts are kept once they were asked for. */
+typedef struct {
+    PyObject_HEAD
+    PyObject *bytes; /* NULL until __init__ was called */
+    const char *at;
+    size_t len;
+    PyObject *text, *parts;
+    Py_hash_t hash; /* 0 where it was not asked for */
+    uint32_t dialect;
+    bool hands_on; /* whether its class has a with_segments of its own */
+} Path;
+
+/* Bytes that are read, and what holds them. */
+typedef struct {
+    const char *at;
+    size_t len;
+    PyObject *held;
+    bool is_bytes;
+} Text;
+
+/* What an answer is made: a path of the class of one; or else a text as another was, a str or bytes. */
+typedef struct {
+    Path *like;
+    bool is_bytes;
+} Made;
+
+static PyObject *unix_new(PyTypeObject *type, PyObject *args, PyObject *named);
+static PyObject *windows_new(PyTypeObject *type, PyObject *args, PyObject *named);
+
+/* Errors. */
+
+/* Raises the error that a function of _errors.py makes of these words, and returns NULL. */
+static PyObject *raised(const char *function, const char *format, ...)
+{
+    PyObject *module = PyImport_ImportModule("typed_path._errors");
+    PyObject *call = module ? PyObject_GetAttrString(module, function) : NULL;
+    va_list words;
+    va_start(words, format);
+    PyObject *args = call ? Py_VaBuildValue(format, words) : NULL;
+    va_end(words);
+    PyObject *error = args ? PyObject_CallObject(call, args) : NULL;
+    if (error)
+        PyErr_SetObject((PyObject *)Py_TYPE(error), error);
+    Py_XDECREF(error);
+    Py_XDECREF(args);
+    Py_XDECREF(call);
+    Py_XDECREF(module);
+    return NULL;
+}
+
+/* Raises what a status names. `told` is what a refusal tells of, `judged` the text that was judged. */
+static PyObject *failed(uint32_t status, PyObject *told, uint32_t dialect, const Text *judged, PyObject *base)
+{
+    if (status == TYPED_PATH_STATUS_OUT_OF_MEMORY)
+        return PyErr_NoMemory();
+    return raised(
+        "failed", "(kOky#OO)", (unsigned long)status, told, (unsigned long)dialect, judged->at ? judged->at : "",
+        (Py_ssize_t)judged->len, Py_None, base ? base : Py_None);
+}
+
+/* Text. */
+
+/* The function of this module that makes the objects of a class, or NULL if they are no paths. A class below may have
+   a __new__ of its own. */
+static newfunc maker_of(PyTypeObject *type)
+{
+    for (; PyType_GetFlags(type) & Py_TPFLAGS_HEAPTYPE; type = PyType_GetSlot(type, Py_tp_base)) {
+        newfunc make = (newfunc)PyType_GetSlot(type, Py_tp_new);
+        if (make == unix_new || make == windows_new)
+            return make;
+    }
+    return NULL;
+}
+
+/* The path that an object is, or NULL. */
+static Path *as_path(PyObject *from)
+{
+    return maker_of(Py_TYPE(from)) ? (Path *)from : NULL;
+}
+
+/* The bytes of a path. Raises AttributeError for one whose __init__ was never called. */
+static inline bool read_path(Path *path, Text *text)
+{
+    *text = (Text){path->at, path->len, NULL, false};
+    if (path->bytes)
+        return true;
+    PyErr_SetString(PyExc_AttributeError, "__init__ of this path was not called");
+    return false;
+}
+
+static bool read_bytes(PyObject *from, Text *text)
+{
+    char *at;
+    Py_ssize_t len;
+    if (PyBytes_AsStringAndSize(from, &at, &len) < 0)
+        return false;
+    *text = (Text){at, (size_t)len, NULL, true};
+    return true;
+}
+
+static bool read_held(PyObject *held, Text *text)
+{
+    if (!held || !read_bytes(held, text)) {
+        Py_XDECREF(held);
+        return false;
+    }
+    text->held = held;
+    text->is_bytes = false;
+    return true;
+}
+
+static bool read_str(uint32_t dialect, PyObject *from, Text *text)
+{
+    if (is_utf8[dialect]) {
+        Py_ssize_t len;
+        const char *at = PyUnicode_AsUTF8AndSize(from, &len);
+        if (at) {
+            *text = (Text){at, (size_t)len, NULL, false};
+            return true;
+        }
+        if (!PyErr_ExceptionMatches(PyExc_UnicodeEncodeError))
+            return false;
+        PyErr_Clear();
+    }
+    return read_held(PyUnicode_AsEncodedString(from, encodings[dialect], errors), text);
+}
+
+static bool read_other(uint32_t dialect, PyObject *from, Text *text)
+{
+    Path *path = as_path(from);
+    if (path && path->dialect != dialect) {
+        raised("of_other_dialect", "(O)", from);
+        return false;
+    }
+    if (path)
+        return read_path(path, text);
+    PyObject *named = PyOS_FSPath(from);
+    if (!named)
+        return false;
+    bool is_read = PyUnicode_Check(named) ? read_str(dialect, named, text) : read_bytes(named, text);
+    if (!is_read || text->held) {
+        Py_DECREF(named);
+        return is_read;
+    }
+    text->held = named;
+    return true;
+}
+
+/* The bytes that a str, bytes, a path of this dialect or what os.fspath takes stands for. */
+static inline bool read_text(uint32_t dialect, PyObject *from, Text *text)
+{
+    if (PyUnicode_Check(from))
+        return read_str(dialect, from, text);
+    if (PyBytes_Check(from))
+        return read_bytes(from, text);
+    return read_other(dialect, from, text);
+}
+
+/* The same of a call that refuses a str which no bytes stand for as a name of this status. */
+static bool read_checked(uint32_t dialect, PyObject *from, Text *text, uint32_t unwritten)
+{
+    if (read_text(dialect, from, text))
+        return true;
+    if (PyErr_ExceptionMatches(PyExc_UnicodeEncodeError)) {
+        PyErr_Clear();
+        raised("unwritten", "(kO)", (unsigned long)unwritten, from);
+    }
+    return false;
+}
+
+static PyObject *decoded(uint32_t dialect, const char *at, size_t len)
+{
+    if (is_utf8[dialect])
+        return PyUnicode_DecodeUTF8(at, (Py_ssize_t)len, errors);
+    return PyUnicode_Decode(at ? at : "", (Py_ssize_t)len, encodings[dialect], errors);
+}
+
+static PyObject *decoded_span(const Path *path, typed_path_span span)
+{
+    return decoded(path->dialect, path->at + span.start, span.length);
+}
+
+/* What is made. */
+
+/* Gives a path its bytes, whose reference it takes. */
+static bool holds(Path *path, PyObject *bytes)
+{
+    Text text;
+    if (!bytes || !read_bytes(bytes, &text)) {
+        Py_XDECREF(bytes);
+        return false;
+    }
+    path->bytes = bytes;
+    path->at = text.at;
+    path->len = text.len;
+    return true;
+}
+
+/* A new path with its bytes. It takes both references. */
+static PyObject *filled(Path *path, PyObject *bytes)
+{
+    if (path && holds(path, bytes))
+        return (PyObject *)path;
+    if (!path)
+        Py_XDECREF(bytes);
+    Py_XDECREF(path);
+    return NULL;
+}
+
+/* A path without bytes, of the class of another. */
+static Path *blank(const Path *like)
+{
+    Path *path = (Path *)PyType_GenericAlloc(Py_TYPE((PyObject *)like), 0);
+    if (path)
+        path->dialect = like->dialect;
+    return path;
+}
+
+/* The path of these bytes, by with_segments where the class has its own. It takes the reference. */
+static PyObject *like_of(Path *like, PyObject *bytes)
+{
+    if (!bytes)
+        return NULL;
+    if (!like->hands_on)
+        return filled(blank(like), bytes);
+    PyObject *path = PyObject_CallMethod((PyObject *)like, "with_segments", "(O)", bytes);
+    Py_DECREF(bytes);
+    return path;
+}
+
+static PyObject *made_of(Made made, uint32_t dialect, const char *at, size_t len)
+{
+    if (made.like)
+        return like_of(made.like, PyBytes_FromStringAndSize(at, (Py_ssize_t)len));
+    return made.is_bytes ? PyBytes_FromStringAndSize(at, (Py_ssize_t)len) : decoded(dialect, at, len);
+}
+
+/* Calls of the archive. Each engine is given its call as a constant, so that the compiler calls that. */
+
+typedef uint32_t Puts(uint32_t, const char *, size_t, char *, size_t, size_t *);
+typedef uint32_t PutsOther(uint32_t, const char *, size_t, const char *, size_t, char *, size_t, size_t *);
+typedef uint32_t Spans(uint32_t, const char *, size_t, typed_path_span *);
+typedef uint32_t SpansOther(uint32_t, const char *, size_t, const char *, size_t, typed_path_span *);
+typedef uint32_t Asks(uint32_t, const char *, size_t, bool *);
+typedef uint32_t AsksOther(uint32_t, const char *, size_t, const char *, size_t, bool *);
+
+/* Memory for an answer of so many bytes: the room on the stack, or memory of its own. */
+static inline char *room_of(char *room, size_t size)
+{
+    if (size <= ROOM)
+        return room;
+    char *out = PyMem_Malloc(size);
+    if (!out)
+        PyErr_NoMemory();
+    return out;
+}
+
+static inline void freed(char *out, const char *room)
+{
+    if (out != room)
+        PyMem_Free(out);
+}
+
+static inline PyObject *put(Puts *call, uint32_t dialect, const Text *path, Made made)
+{
+    char room[ROOM];
+    size_t size = TYPED_PATH_CLEAN_BOUND(path->len), len;
+    char *out = room_of(room, size);
+    if (!out)
+        return NULL;
+    uint32_t status = call(dialect, path->at, path->len, out, size, &len);
+    PyObject *answer = status == TYPED_PATH_STATUS_DONE
+                           ? made_of(made, dialect, out, len)
+                           : failed(status, Py_None, dialect, path, NULL);
+    freed(out, room);
+    return answer;
+}
+
+/* `told` is what a refusal tells of, and the other text was judged then. */
+static inline PyObject *put_other(
+    PutsOther *call, uint32_t dialect, const Text *path, const Text *other, Made made, PyObject *told)
+{
+    char room[ROOM];
+    size_t size = TYPED_PATH_RESOLVE_BOUND(path->len, other->len), len;
+    char *out = room_of(room, size);
+    if (!out)
+        return NULL;
+    uint32_t status = call(dialect, path->at, path->len, other->at, other->len, out, size, &len);
+    PyObject *answer = status == TYPED_PATH_STATUS_DONE ? made_of(made, dialect, out, len)
+                                                        : failed(status, told, dialect, other, NULL);
+    freed(out, room);
+    return answer;
+}
+
+/* Whether an answer of typed_path_relative_to leads up. */
+static bool leads_up(uint32_t dialect, const char *out, size_t len)
+{
+    return len > 1 && memcmp(out, "..", 2) == 0 && (len == 2 || out[2] == *separators[dialect]);
+}
+
+/* `told` and `told_base` are what a refusal tells of. */
+static PyObject *put_relative(
+    uint32_t dialect, const Text *path, const Text *base, Made made, PyObject *told, PyObject *told_base, bool walks_up)
+{
+    char room[ROOM];
+    size_t size = TYPED_PATH_RELATIVE_BOUND(path->len, base->len), len;
+    char *out = room_of(room, size);
+    if (!out)
+        return NULL;
+    uint32_t status =
+        typed_path_relative_to(dialect, path->at, path->len, base->at, base->len, out, size, &len);
+    PyObject *answer;
+    if (status != TYPED_PATH_STATUS_DONE)
+        answer = failed(status, told, dialect, path, told_base);
+    else if (!walks_up && leads_up(dialect, out, len))
+        answer = raised("not_below", "(OO)", told, told_base);
+    else
+        answer = made_of(made, dialect, out, len);
+    freed(out, room);
+    return answer;
+}
+
+static inline PyObject *asked(Asks *call, uint32_t dialect, const Text *path)
+{
+    bool answer = false;
+    uint32_t status = call(dialect, path->at, path->len, &answer);
+    return status == TYPED_PATH_STATUS_DONE ? PyBool_FromLong(answer) : failed(status, Py_None, dialect, path, NULL);
+}
+
+static inline PyObject *asked_other(AsksOther *call, uint32_t dialect, const Text *path, const Text *other)
+{
+    bool answer = false;
+    uint32_t status = call(dialect, path->at, path->len, other->at, other->len, &answer);
+    return status == TYPED_PATH_STATUS_DONE ? PyBool_FromLong(answer) : failed(status, Py_None, dialect, path, NULL);
+}
+
+/* Whether there is such a part of a path. */
+static inline bool is_part(uint32_t status)
+{
+    return status == TYPED_PATH_STATUS_DONE;
+}
+
+/* The parts of a path. */
+
+static typed_path_reading reading_of(const Text *path)
+{
+    return (typed_path_reading)TYPED_PATH_READING(path->len);
+}
+
+static bool is_next(uint32_t dialect, const Text *path, typed_path_reading *reading, typed_path_component *piece)
+{
+    return is_part(typed_path_next(dialect, path->at, path->len, reading, piece));
+}
+
+/* The length of the prefix, and whether a root stands behind it. */
+static size_t anchor_of(uint32_t dialect, const Text *path, bool *has_root)
+{
+    typed_path_reading reading = reading_of(path);
+    typed_path_component piece;
+    size_t len = 0;
+    *has_root = is_next(dialect, path, &reading, &piece);
+    if (*has_root && piece.kind >= TYPED_PATH_KIND_PREFIX_VERBATIM) {
+        len = piece.length;
+        *has_root = is_next(dialect, path, &reading, &piece);
+    }
+    *has_root = *has_root && piece.kind == TYPED_PATH_KIND_ROOT;
+    return len;
+}
+
+/* The bytes of a prefix with the root behind it, as text. */
+static PyObject *anchored(uint32_t dialect, const char *at, size_t len, bool has_root)
+{
+    PyObject *drive = decoded(dialect, at, len);
+    PyObject *root = drive && has_root ? PyUnicode_FromStringAndSize(separators[dialect], 1) : NULL;
+    if (!drive || !has_root)
+        return drive;
+    PyObject *both = root ? PyUnicode_Concat(drive, root) : NULL;
+    Py_DECREF(drive);
+    Py_XDECREF(root);
+    return both;
+}
+
+/* Puts an item behind a list, and takes its reference. */
+static bool is_put_behind(PyObject *list, PyObject *item)
+{
+    bool is_put = item && PyList_Append(list, item) == 0;
+    Py_XDECREF(item);
+    return is_put;
+}
+
+static PyObject *tuple_of(PyObject *list, bool is_whole)
+{
+    PyObject *tuple = is_whole ? PyList_AsTuple(list) : NULL;
+    Py_XDECREF(list);
+    return tuple;
+}
+
+static PyObject *parts_of(uint32_t dialect, const Text *path)
+{
+    PyObject *list = PyList_New(0);
+    bool has_root, is_whole = list;
+    size_t prefix = anchor_of(dialect, path, &has_root);
+    if (is_whole && (prefix || has_root))
+        is_whole = is_put_behind(list, anchored(dialect, path->at, prefix, has_root));
+    typed_path_reading reading = reading_of(path);
+    typed_path_component piece;
+    while (is_whole && is_next(dialect, path, &reading, &piece))
+        if (piece.kind != TYPED_PATH_KIND_ROOT && piece.kind < TYPED_PATH_KIND_PREFIX_VERBATIM)
+            is_whole = is_put_behind(list, decoded(dialect, path->at + piece.start, piece.length));
+    return tuple_of(list, is_whole);
+}
+
+/* The methods of a path. */
+
+#define READ_SELF(text) \
+    Path *path = (Path *)self; \
+    Text text; \
+    (void)unused; \
+    if (!read_path(path, &text)) \
+        return NULL
+
+/* A call of the path alone. */
+#define OF_PATH(name, answer) \
+    static PyObject *path_##name(PyObject *self, PyObject *unused) \
+    { \
+        READ_SELF(text); \
+        return answer; \
+    }
+/* A call of the path and another one. */
+#define OF_OTHER(name, answer) \
+    static PyObject *path_##name(PyObject *self, PyObject *from) \
+    { \
+        PyObject *const unused = NULL; \
+        READ_SELF(text); \
+        Text other; \
+        if (!read_text(path->dialect, from, &other)) \
+            return NULL; \
+        PyObject *answered = answer; \
+        Py_XDECREF(other.held); \
+        return answered; \
+    }
+/* The same of a checked call. A str that no bytes stand for is refused by it as a name of this status. */
+#define CHECKED(name, unwritten) \
+    static PyObject *path_##name(PyObject *self, PyObject *from) \
+    { \
+        PyObject *const unused = NULL; \
+        READ_SELF(text); \
+        Text other; \
+        if (!read_checked(path->dialect, from, &other, unwritten)) \
+            return NULL; \
+        PyObject *answer = put_other(typed_path_##name, path->dialect, &text, &other, LIKE_SELF, from); \
+        Py_XDECREF(other.held); \
+        return answer; \
+    }
+#define LIKE_SELF ((Made){path, false})
+
+OF_PATH(normalize, put(typed_path_normalize, path->dialect, &text, LIKE_SELF))
+OF_PATH(clean, put(typed_path_clean, path->dialect, &text, LIKE_SELF))
+OF_PATH(is_absolute, asked(typed_path_is_absolute, path->dialect, &text))
+OF_PATH(has_root, asked(typed_path_has_root, path->dialect, &text))
+OF_PATH(is_valid, asked(typed_path_is_valid, path->dialect, &text))
+OF_PATH(is_portable, asked(typed_path_is_portable, path->dialect, &text))
+OF_PATH(may_be_device, asked(typed_path_may_be_device, path->dialect, &text))
+OF_PATH(keeps_prefix, asked(typed_path_keeps_prefix, path->dialect, &text))
+OF_PATH(_check, PyLong_FromUnsignedLong(typed_path_check(path->dialect, text.at, text.len)))
+OF_PATH(_check_portable, PyLong_FromUnsignedLong(typed_path_check_portable(path->dialect, text.at, text.len)))
+CHECKED(join_checked, TYPED_PATH_STATUS_INVALID_FILENAME)
+CHECKED(join_portable, TYPED_PATH_STATUS_NOT_TEXT)
+CHECKED(resolve_checked, TYPED_PATH_STATUS_INVALID_FILENAME)
+OF_OTHER(_with_file_name, put_other(typed_path_with_file_name, path->dialect, &text, &other, LIKE_SELF, from))
+OF_OTHER(_with_extension, put_other(typed_path_with_extension, path->dialect, &text, &other, LIKE_SELF, from))
+OF_OTHER(_absolutize, put_other(typed_path_absolutize, path->dialect, &text, &other, LIKE_SELF, self))
+OF_OTHER(is_within, asked_other(typed_path_is_within, path->dialect, &text, &other))
+OF_OTHER(starts_with, asked_other(typed_path_starts_with, path->dialect, &text, &other))
+OF_OTHER(ends_with, asked_other(typed_path_ends_with, path->dialect, &text, &other))
+
+/* The path that a span is, of the class of this one; itself if it is the whole. */
+static PyObject *lent(Path *path, typed_path_span span)
+{
+    if (span.length == path->len && !path->hands_on) {
+        Py_INCREF(path);
+        return (PyObject *)path;
+    }
+    return like_of(path, PyBytes_FromStringAndSize(path->at + span.start, (Py_ssize_t)span.length));
+}
+
+static PyObject *spanned(Path *path, uint32_t status, typed_path_span span)
+{
+    if (!is_part(status))
+        span = (typed_path_span){0, 0};
+    return lent(path, span);
+}
+
+static PyObject *path_simplified(PyObject *self, PyObject *unused)
+{
+    READ_SELF(text);
+    typed_path_span span = {0, 0};
+    uint32_t status = typed_path_simplified(path->dialect, text.at, text.len, &span);
+    return spanned(path, status, span);
+}
+
+static PyObject *common_with(Path *path, const Text *text, const Text *other)
+{
+    typed_path_span span = {0, 0};
+    uint32_t status =
+        typed_path_common_ancestor(path->dialect, text->at, text->len, other->at, other->len, &span);
+    return spanned(path, status, span);
+}
+OF_OTHER(common_ancestor, common_with(path, &text, &other))
+
+static PyObject *stripped(Path *path, const Text *text, const Text *other, PyObject *from)
+{
+    typed_path_span span;
+    if (!is_part(typed_path_strip_prefix(path->dialect, text->at, text->len, other->at, other->len, &span)))
+        return raised("not_a_beginning", "(OO)", path, from);
+    return lent(path, span);
+}
+OF_OTHER(strip_prefix, stripped(path, &text, &other, from))
+OF_OTHER(_read, PyBytes_FromStringAndSize(other.at, (Py_ssize_t)other.len))
+
+static PyObject *path__text(PyObject *self, PyObject *from)
+{
+    Text text;
+    return read_bytes(from, &text) ? decoded(((Path *)self)->dialect, text.at, text.len) : NULL;
+}
+
+static PyObject *path__like(PyObject *self, PyObject *from)
+{
+    Text text;
+    if (!read_bytes(from, &text))
+        return NULL;
+    Py_INCREF(from);
+    return like_of((Path *)self, from);
+}
+
+/* The path with others pushed onto it one by one. */
+static PyObject *joined(Path *path, PyObject *const *others, Py_ssize_t count)
+{
+    PyObject *made = (PyObject *)path;
+    Py_INCREF(made);
+    for (Py_ssize_t at = 0; made && at < count; ++at) {
+        Path *onto = as_path(made); /* with_segments may make what it likes */
+        Text text, other;
+        PyObject *next = NULL;
+        if (!onto)
+            PyErr_SetString(PyExc_TypeError, "with_segments has to make a path");
+        else if (read_path(onto, &text) && read_text(onto->dialect, others[at], &other)) {
+            next = put_other(typed_path_join, onto->dialect, &text, &other, (Made){onto, false}, others[at]);
+            Py_XDECREF(other.held);
+        }
+        Py_DECREF(made);
+        made = next;
+    }
+    return made;
+}
+
+static PyObject *path_join(PyObject *self, PyObject *const *others, Py_ssize_t count)
+{
+    return joined((Path *)self, others, count);
+}
+
+/* The one word of a call that may have `walk_up` behind it. */
+static PyObject *base_of(PyObject *const *words, Py_ssize_t count, PyObject *names, bool *walks_up)
+{
+    Py_ssize_t named = names ? PyTuple_Size(names) : 0;
+    *walks_up = false;
+    if (count != 1 || named > 1 ||
+        (named == 1 && PyUnicode_CompareWithASCIIString(PyTuple_GetItem(names, 0), "walk_up") != 0)) {
+        PyErr_SetString(PyExc_TypeError, "it takes one base, and walk_up by its name");
+        return NULL;
+    }
+    if (named == 1) {
+        int walks = PyObject_IsTrue(words[1]);
+        if (walks < 0)
+            return NULL;
+        *walks_up = walks;
+    }
+    return words[0];
+}
+
+static PyObject *path_relative_to(PyObject *self, PyObject *const *words, Py_ssize_t count, PyObject *names)
+{
+    PyObject *const unused = NULL;
+    READ_SELF(text);
+    bool walks_up;
+    Text base;
+    PyObject *from = base_of(words, count, names, &walks_up);
+    if (!from || !read_text(path->dialect, from, &base))
+        return NULL;
+    PyObject *answer = put_relative(path->dialect, &text, &base, LIKE_SELF, self, from, walks_up);
+    Py_XDECREF(base.held);
+    return answer;
+}
+
+/* Whether a path of names alone, or of none, leads from the base to this path. */
+static PyObject *below(Path *path, const Text *text, const Text *base)
+{
+    char room[ROOM];
+    size_t size = TYPED_PATH_RELATIVE_BOUND(text->len, base->len), len;
+    char *out = room_of(room, size);
+    if (!out)
+        return NULL;
+    uint32_t status =
+        typed_path_relative_to(path->dialect, text->at, text->len, base->at, base->len, out, size, &len);
+    bool is_below = status == TYPED_PATH_STATUS_DONE && !leads_up(path->dialect, out, len);
+    freed(out, room);
+    if (status == TYPED_PATH_STATUS_OUT_OF_MEMORY)
+        return PyErr_NoMemory();
+    return PyBool_FromLong(is_below);
+}
+OF_OTHER(is_relative_to, below(path, &text, &other))
+
+/* The bytes of the path as they are written in another dialect. */
+static PyObject *path__convert(PyObject *self, PyObject *const *words, Py_ssize_t count)
+{
+    PyObject *const unused = NULL;
+    READ_SELF(text);
+    if (count != 2)
+        return PyErr_Format(PyExc_TypeError, "it takes a dialect, and whether it checks");
+    unsigned long to = PyLong_AsUnsignedLong(words[0]);
+    int checks = PyObject_IsTrue(words[1]);
+    if (checks < 0 || PyErr_Occurred())
+        return NULL;
+    char room[ROOM];
+    size_t size = TYPED_PATH_CONVERT_BOUND(text.len), len;
+    char *out = room_of(room, size);
+    if (!out)
+        return NULL;
+    uint32_t status = (checks ? typed_path_convert_checked : typed_path_convert)(
+        path->dialect, text.at, text.len, (uint32_t)to, out, size, &len);
+    PyObject *answer = NULL;
+    if (status == TYPED_PATH_STATUS_DONE)
+        answer = PyBytes_FromStringAndSize(out, (Py_ssize_t)len);
+    else if (status == TYPED_PATH_STATUS_OUT_OF_MEMORY)
+        PyErr_NoMemory();
+    else
+        raised("failed", "(kOkOkO)", (unsigned long)status, self, (unsigned long)path->dialect, path->bytes, to, Py_None);
+    freed(out, room);
+    return answer;
+}
+
+/* The kind, the first byte and the number of bytes of each component. */
+static PyObject *path__pieces(PyObject *self, PyObject *unused)
+{
+    READ_SELF(text);
+    typed_path_reading reading = reading_of(&text);
+    typed_path_component piece;
+    PyObject *list = PyList_New(0);
+    bool is_whole = list;
+    while (is_whole && is_next(path->dialect, &text, &reading, &piece))
+        is_whole = is_put_behind(
+            list, Py_BuildValue("(knn)", (unsigned long)piece.kind, (Py_ssize_t)piece.start, (Py_ssize_t)piece.length));
+    if (is_whole)
+        return list;
+    Py_XDECREF(list);
+    return NULL;
+}
+
+/* The text with each separator written `/`. */
+static PyObject *path_as_posix(PyObject *self, PyObject *unused)
+{
+    READ_SELF(text);
+    if (path->dialect == TYPED_PATH_UNIX || !memchr(text.at, '\\', text.len))
+        return PyObject_Str(self);
+    char room[ROOM];
+    char *out = room_of(room, text.len);
+    if (!out)
+        return NULL;
+    for (size_t at = 0; at < text.len; ++at)
+        out[at] = text.at[at] == '\\' ? '/' : text.at[at];
+    PyObject *answer = decoded(path->dialect, out, text.len);
+    freed(out, room);
+    return answer;
+}
+
+/* The properties of a path. */
+
+#define PROPERTY(name, answer) \
+    static PyObject *path_get_##name(PyObject *self, void *unused) \
+    { \
+        READ_SELF(text); \
+        return answer; \
+    }
+
+static PyObject *part(Spans *call, Path *path, const Text *text, bool is_optional)
+{
+    typed_path_span span;
+    if (is_part(call(path->dialect, text->at, text->len, &span)))
+        return decoded_span(path, span);
+    if (!is_optional)
+        return PyUnicode_FromStringAndSize("", 0);
+    Py_RETURN_NONE;
+}
+PROPERTY(name, part(typed_path_file_name, path, &text, false))
+PROPERTY(stem, part(typed_path_file_stem, path, &text, false))
+PROPERTY(extension, part(typed_path_extension, path, &text, true))
+
+static PyObject *suffix(const Path *path, const Text *text)
+{
+    typed_path_span span;
+    if (!is_part(typed_path_extension(path->dialect, text->at, text->len, &span)))
+        return PyUnicode_FromStringAndSize("", 0);
+    return decoded_span(path, (typed_path_span){span.start - 1, span.length + 1});
+}
+PROPERTY(suffix, suffix(path, &text))
+
+static PyObject *suffixes(const Path *path, const Text *text)
+{
+    typed_path_span name;
+    PyObject *list = PyList_New(0);
+    if (!list || !is_part(typed_path_file_name(path->dialect, text->at, text->len, &name)))
+        return list;
+    const char *end = text->at + name.start + name.length;
+    const char *dot = memchr(text->at + name.start + 1, '.', name.length - 1);
+    while (dot) {
+        const char *next = memchr(dot + 1, '.', (size_t)(end - dot - 1));
+        if (!is_put_behind(list, decoded(path->dialect, dot, (size_t)((next ? next : end) - dot)))) {
+            Py_DECREF(list);
+            return NULL;
+        }
+        dot = next;
+    }
+    return list;
+}
+PROPERTY(suffixes, suffixes(path, &text))
+
+/* The drive, the root, or both. */
+static PyObject *anchor(const Path *path, const Text *text, bool with_drive, bool with_root)
+{
+    bool has_root;
+    size_t prefix = anchor_of(path->dialect, text, &has_root);
+    return anchored(path->dialect, text->at, with_drive ? prefix : 0, with_root && has_root);
+}
+PROPERTY(drive, anchor(path, &text, true, false))
+PROPERTY(root, anchor(path, &text, false, true))
+PROPERTY(anchor, anchor(path, &text, true, true))
+
+static PyObject *parent(Path *path, const Text *text)
+{
+    typed_path_span span;
+    if (is_part(typed_path_parent(path->dialect, text->at, text->len, &span)))
+        return lent(path, span);
+    Py_INCREF(path);
+    return (PyObject *)path;
+}
+PROPERTY(parent, parent(path, &text))
+
+static PyObject *parents(Path *path, Text rest)
+{
+    typed_path_span span;
+    PyObject *list = PyList_New(0);
+    bool is_whole = list;
+    while (is_whole && is_part(typed_path_parent(path->dialect, rest.at, rest.len, &span))) {
+        rest = (Text){rest.at + span.start, span.length, NULL, false};
+        is_whole = is_put_behind(list, like_of(path, PyBytes_FromStringAndSize(rest.at, (Py_ssize_t)rest.len)));
+    }
+    return tuple_of(list, is_whole);
+}
+PROPERTY(parents, parents(path, text))
+
+static PyObject *parts(Path *path, const Text *text)
+{
+    if (!path->parts)
+        path->parts = parts_of(path->dialect, text);
+    Py_XINCREF(path->parts);
+    return path->parts;
+}
+PROPERTY(parts, parts(path, &text))
+PROPERTY(_bytes, (Py_INCREF(path->bytes), (void)text, path->bytes))
+
+/* What Python asks of each object. */
+
+static PyObject *path_str(PyObject *self)
+{
+    PyObject *const unused = NULL;
+    READ_SELF(text);
+    if (!path->text)
+        path->text = decoded(path->dialect, text.at, text.len);
+    Py_XINCREF(path->text);
+    return path->text;
+}
+
+static PyObject *path___fspath__(PyObject *self, PyObject *unused)
+{
+    READ_SELF(text);
+    return is_utf8[path->dialect] ? path_str(self) : PyUnicode_DecodeFSDefaultAndSize(text.at, (Py_ssize_t)text.len);
+}
+
+static PyObject *path___bytes__(PyObject *self, PyObject *unused)
+{
+    return path_get__bytes(self, unused);
+}
+
+static Py_hash_t path_hash(PyObject *self)
+{
+    Path *path = (Path *)self;
+    Text text;
+    uint64_t number;
+    if (path->hash)
+        return path->hash;
+    if (!read_path(path, &text))
+        return -1;
+    if (typed_path_hash_keyed(path->dialect, key[0], key[1], text.at, text.len, &number) != TYPED_PATH_STATUS_DONE) {
+        PyErr_SetString(PyExc_RuntimeError, "a path has no hash");
+        return -1;
+    }
+    number ^= path->dialect * UINT64_C(0x9e3779b97f4a7c15);
+    path->hash = (Py_hash_t)number;
+    if (path->hash == 0 || path->hash == -1)
+        path->hash = -2;
+    return path->hash;
+}
+
+static PyObject *path_compared(PyObject *self, PyObject *from, int how)
+{
+    Path *path = (Path *)self, *other = Py_TYPE(self) == Py_TYPE(from) ? (Path *)from : as_path(from);
+    Text text, others;
+    if (!other || other->dialect != path->dialect)
+        Py_RETURN_NOTIMPLEMENTED;
+    if (!read_path(path, &text) || !read_path(other, &others))
+        return NULL;
+    if (how == Py_EQ || how == Py_NE) {
+        bool are_equal = text.len == others.len && memcmp(text.at, others.at, text.len) == 0;
+        uint32_t status = are_equal ? TYPED_PATH_STATUS_DONE
+                                    : typed_path_equal(path->dialect, text.at, text.len, others.at, others.len, &are_equal);
+        if (status != TYPED_PATH_STATUS_DONE)
+            return failed(status, self, path->dialect, &text, NULL);
+        return PyBool_FromLong(are_equal == (how == Py_EQ));
+    }
+    int32_t order = 0;
+    uint32_t status = typed_path_compare(path->dialect, text.at, text.len, others.at, others.len, &order);
+    if (status != TYPED_PATH_STATUS_DONE)
+        return failed(status, self, path->dialect, &text, NULL);
+    bool holds = how == Py_LT ? order < 0 : how == Py_LE ? order <= 0 : how == Py_GT ? order > 0 : order >= 0;
+    return PyBool_FromLong(holds);
+}
+
+static bool is_text(PyObject *from)
+{
+    return PyUnicode_Check(from) || PyBytes_Check(from);
+}
+
+/* Whether an object has a text, as os.fspath takes it. */
+static bool is_path_like(PyObject *from)
+{
+    return PyObject_HasAttrString((PyObject *)Py_TYPE(from), "__fspath__");
+}
+
+static PyObject *path_divided(PyObject *left, PyObject *right)
+{
+    Path *path = is_text(left) ? NULL : as_path(left);
+    if (path) {
+        if (!is_text(right) && !as_path(right) && !is_path_like(right))
+            Py_RETURN_NOTIMPLEMENTED;
+        return joined(path, &right, 1);
+    }
+    path = as_path(right);
+    if (!path || (!is_text(left) && !is_path_like(left)))
+        Py_RETURN_NOTIMPLEMENTED;
+    Text text, base;
+    if (!read_path(path, &text) || !read_text(path->dialect, left, &base))
+        return NULL;
+    PyObject *answer = put_other(typed_path_join, path->dialect, &base, &text, LIKE_SELF, right);
+    Py_XDECREF(base.held);
+    return answer;
+}
+
+/* How paths are made, and end. */
+
+/* Whether a class has a with_segments of its own; less than 0 where that cannot be asked. Between the class of this
+   package, as typed_path.UnixPath, and `object` stand two types of this module. */
+static int hands_on(PyTypeObject *type)
+{
+    PyTypeObject *above = type, *first = NULL;
+    for (int depth = 1;; ++depth) {
+        PyTypeObject *next = PyType_GetSlot(above, Py_tp_base);
+        if (next == &PyBaseObject_Type) {
+            if (depth <= 3)
+                return 0;
+            first = above;
+            break;
+        }
+        above = next;
+    }
+    PyObject *own = PyObject_GetAttrString((PyObject *)type, "with_segments");
+    PyObject *ours = PyObject_GetAttrString((PyObject *)first, "with_segments");
+    int is_own = own && ours ? own != ours : -1;
+    Py_XDECREF(own);
+    Py_XDECREF(ours);
+    return is_own;
+}
+
+static PyObject *new_of(PyTypeObject *type, uint32_t dialect)
+{
+    int hands = hands_on(type);
+    Path *path = hands < 0 ? NULL : (Path *)PyType_GenericAlloc(type, 0);
+    if (path) {
+        path->dialect = dialect;
+        path->hands_on = hands;
+    }
+    return (PyObject *)path;
+}
+
+static PyObject *unix_new(PyTypeObject *type, PyObject *args, PyObject *named)
+{
+    (void)args;
+    (void)named;
+    return new_of(type, TYPED_PATH_UNIX);
+}
+
+static PyObject *windows_new(PyTypeObject *type, PyObject *args, PyObject *named)
+{
+    (void)args;
+    (void)named;
+    return new_of(type, TYPED_PATH_WINDOWS);
+}
+
+static PyObject *path_new(PyTypeObject *type, PyObject *args, PyObject *named)
+{
+    (void)type;
+    (void)args;
+    (void)named;
+    return PyErr_Format(PyExc_TypeError, "a path is a UnixPath or a WindowsPath");
+}
+
+/* Gives a path its bytes: those of the first text, with the others pushed onto it. */
+static bool is_filled_from(Path *path, PyObject *args)
+{
+    Py_ssize_t count = PyTuple_Size(args);
+    Text text = {"", 0, NULL, false};
+    PyObject *from = count ? PyTuple_GetItem(args, 0) : NULL;
+    if (from && !read_text(path->dialect, from, &text))
+        return false;
+    PyObject *bytes = from && PyBytes_CheckExact(from) ? (Py_INCREF(from), from)
+                                                       : PyBytes_FromStringAndSize(text.at, (Py_ssize_t)text.len);
+    for (Py_ssize_t at = 1; bytes && at < count; ++at) {
+        Text made, other;
+        PyObject *next = NULL;
+        if (read_bytes(bytes, &made) && read_text(path->dialect, PyTuple_GetItem(args, at), &other)) {
+            next = put_other(typed_path_join, path->dialect, &made, &other, (Made){NULL, true}, Py_None);
+            Py_XDECREF(other.held);
+        }
+        Py_DECREF(bytes);
+        bytes = next;
+    }
+    bool is_filled = holds(path, bytes);
+    if (is_filled && count == 1 && PyUnicode_CheckExact(from) && !text.held) {
+        Py_INCREF(from);
+        path->text = from;
+    }
+    Py_XDECREF(text.held);
+    return is_filled;
+}
+
+static int path_init(PyObject *self, PyObject *args, PyObject *named)
+{
+    Path *path = (Path *)self;
+    if (path->bytes)
+        return 0;
+    if (named && PyDict_Size(named) > 0) {
+        PyErr_SetString(PyExc_TypeError, "a path is made of texts alone, none by a name");
+        return -1;
+    }
+    return is_filled_from(path, args) ? 0 : -1;
+}
+
+static PyObject *path_with_segments(PyObject *self, PyObject *args)
+{
+    Path *like = (Path *)self, *path = blank(like);
+    if (path) {
+        path->hands_on = like->hands_on;
+        if (!is_filled_from(path, args))
+            Py_CLEAR(path);
+    }
+    return (PyObject *)path;
+}
+
+static PyObject *path__of(PyObject *type, PyObject *from)
+{
+    newfunc make = maker_of((PyTypeObject *)type);
+    Text text;
+    if (!read_bytes(from, &text))
+        return NULL;
+    Path *path = (Path *)(make ? make : path_new)((PyTypeObject *)type, NULL, NULL);
+    Py_INCREF(from);
+    return filled(path, from);
+}
+
+static void path_dealloc(PyObject *self)
+{
+    Path *path = (Path *)self;
+    PyTypeObject *type = Py_TYPE(self);
+    Py_XDECREF(path->bytes);
+    Py_XDECREF(path->text);
+    Py_XDECREF(path->parts);
+    ((freefunc)PyType_GetSlot(type, Py_tp_free))(self);
+    Py_DECREF(type);
+}
+
+/* A path never changes; a class below may have attributes. */
+static int path_setattro(PyObject *self, PyObject *name, PyObject *value)
+{
+    if (PyUnicode_Check(name) && PyUnicode_CompareWithASCIIString(name, "__class__") == 0) {
+        PyErr_Format(PyExc_AttributeError, "%R never changes", self);
+        return -1;
+    }
+    return PyObject_GenericSetAttr(self, name, value);
+}
+
+/* Many joins at once. */
+
+typedef struct {
+    PyObject *name; /* as it was handed in */
+    Text text;
+    uint32_t status;
+    size_t end; /* where its target ends */
+} Item;
+
+/* Names that are joined at once, and the bytes that their targets take at most. */
+typedef struct {
+    Item *items;
+    size_t count, room, size;
+} Items;
+
+static void emptied(Items *all)
+{
+    for (size_t at = 0; at < all->count; ++at) {
+        Py_DECREF(all->items[at].name);
+        Py_XDECREF(all->items[at].text.held);
+    }
+    all->count = all->size = 0;
+}
+
+static bool has_room(Items *all)
+{
+    if (all->count < all->room)
+        return true;
+    size_t room = all->room ? 2 * all->room : 64;
+    Item *items = PyMem_Realloc(all->items, room * sizeof *items);
+    if (!items) {
+        PyErr_NoMemory();
+        return false;
+    }
+    all->items = items;
+    all->room = room;
+    return true;
+}
+
+/* Reads the bytes of a name, which is a str or bytes as the first one is. A str that no bytes stand for has the status
+   of a name that is refused for it. */
+static bool read_name(uint32_t dialect, PyObject *name, Item *item, uint32_t unwritten, int *are_bytes)
+{
+    bool is_bytes = PyBytes_Check(name);
+    if ((!is_bytes && !PyUnicode_Check(name)) || (*are_bytes >= 0 && *are_bytes != is_bytes)) {
+        PyErr_SetString(PyExc_TypeError, "names have to be all str, or all bytes");
+        return false;
+    }
+    *are_bytes = is_bytes;
+    *item = (Item){name, {"", 0, NULL, is_bytes}, TYPED_PATH_STATUS_DONE, 0};
+    if (is_bytes ? read_bytes(name, &item->text) : read_str(dialect, name, &item->text))
+        return true;
+    if (!PyErr_ExceptionMatches(PyExc_UnicodeEncodeError))
+        return false;
+    PyErr_Clear();
+    item->status = unwritten;
+    return true;
+}
+
+/* Takes names, as many as are joined at once; less than 0 for an error, 0 if there are no more. */
+static int taken(Items *all, PyObject *names, const Path *base, size_t end_len, uint32_t unwritten, int *are_bytes)
+{
+    while (all->count < NAMES_AT_ONCE) {
+        PyObject *name = PyIter_Next(names);
+        if (!name)
+            return PyErr_Occurred() ? -1 : 0;
+        if (!has_room(all) || !read_name(base->dialect, name, &all->items[all->count], unwritten, are_bytes)) {
+            Py_DECREF(name);
+            return -1;
+        }
+        all->size += TYPED_PATH_RESOLVE_BOUND(base->len, all->items[all->count].text.len) + end_len;
+        ++all->count;
+    }
+    return 1;
+}
+
+/* Joins the names, without the lock of Python: their targets stand behind each other in `out`, with `end` behind each.
+   The status is that of the first name which was not judged, whose place is told, or that all were. */
+static uint32_t join_all(
+    PutsOther *call, const Path *base, Items *all, char *out, size_t size, const Text *end, size_t *used, size_t *place)
+{
+    for (size_t at = 0; at < all->count; ++at) {
+        Item *item = &all->items[at];
+        size_t len, room = size - *used;
+        *place = at;
+        if (item->status == TYPED_PATH_STATUS_DONE)
+            item->status =
+                call(base->dialect, base->at, base->len, item->text.at, item->text.len, out + *used, room, &len);
+        if (item->status == TYPED_PATH_STATUS_DONE && room - len < end->len)
+            item->status = TYPED_PATH_STATUS_TOO_SMALL;
+        if (item->status == TYPED_PATH_STATUS_TOO_SMALL || item->status == TYPED_PATH_STATUS_OUT_OF_MEMORY)
+            return item->status;
+        if (item->status == TYPED_PATH_STATUS_DONE) {
+            memcpy(out + *used + len, end->at, end->len);
+            *used += len + end->len;
+        }
+        item->end = *used;
+    }
+    return TYPED_PATH_STATUS_DONE;
+}
+
+/* Notes the status of each name that was refused, by its place. */
+static bool are_noted(PyObject *refused, const Items *all, size_t before)
+{
+    bool is_noted = true;
+    for (size_t at = 0; is_noted && at < all->count; ++at)
+        if (all->items[at].status != TYPED_PATH_STATUS_DONE) {
+            PyObject *place = PyLong_FromSize_t(before + at);
+            PyObject *status = PyLong_FromUnsignedLong(all->items[at].status);
+            is_noted = place && status && PyDict_SetItem(refused, place, status) == 0;
+            Py_XDECREF(place);
+            Py_XDECREF(status);
+        }
+    return is_noted;
+}
+
+/* Puts the targets into a list: None for a name that was refused. */
+static bool are_listed(PyObject *targets, const Items *all, const Path *base, Made made, const char *out)
+{
+    size_t start = 0;
+    for (size_t at = 0; at < all->count; ++at) {
+        const Item *item = &all->items[at];
+        PyObject *target = Py_None;
+        if (item->status == TYPED_PATH_STATUS_DONE)
+            target = made_of(made, base->dialect, out + start, item->end - start);
+        else
+            Py_INCREF(target);
+        if (!is_put_behind(targets, target))
+            return false;
+        start = item->end;
+    }
+    return true;
+}
+
+/* The call of a batch by its number, and what a str without bytes is refused for there. */
+static PutsOther *batched(PyObject *number, uint32_t *unwritten)
+{
+    static PutsOther *const calls[] = {typed_path_join_checked, typed_path_join_portable, typed_path_resolve_checked};
+    unsigned long at = PyLong_AsUnsignedLong(number);
+    *unwritten = at == 1 ? TYPED_PATH_STATUS_NOT_TEXT : TYPED_PATH_STATUS_INVALID_FILENAME;
+    if (at < sizeof calls / sizeof *calls)
+        return calls[at];
+    if (!PyErr_Occurred())
+        PyErr_SetString(PyExc_ValueError, "there is no such call");
+    return NULL;
+}
+
+/* Joins all names to a base: into a list of targets, or behind each other into a buffer. What they were refused for is
+   noted by their places. */
+static bool are_joined(
+    Path *base, PyObject *names, PyObject *number, bool as_paths, PyObject *refused, PyObject *targets, Text *buffer,
+    const Text *end)
+{
+    uint32_t unwritten, status = TYPED_PATH_STATUS_DONE;
+    PutsOther *call = batched(number, &unwritten);
+    if (!call || !(names = PyObject_GetIter(names)))
+        return false;
+    Items all = {NULL, 0, 0, 0};
+    size_t before = 0, used = 0, place = 0;
+    int more = 1, are_bytes = -1;
+    bool is_done = true;
+    while (is_done && more > 0) {
+        more = taken(&all, names, base, end->len, unwritten, &are_bytes);
+        char *own = more >= 0 && targets && all.count ? PyMem_Malloc(all.size) : NULL;
+        char *out = targets ? own : (char *)buffer->at;
+        is_done = more >= 0;
+        if (is_done && targets && all.count && !own) {
+            PyErr_NoMemory();
+            is_done = false;
+        } else if (is_done && all.count) {
+            used = targets ? 0 : used;
+            PyThreadState *lock = PyEval_SaveThread();
+            status = join_all(call, base, &all, out, targets ? all.size : buffer->len, end, &used, &place);
+            PyEval_RestoreThread(lock);
+            is_done = status == TYPED_PATH_STATUS_DONE && are_noted(refused, &all, before) &&
+                      (!targets || are_listed(targets, &all, base, (Made){as_paths ? base : NULL, are_bytes > 0}, own));
+            if (status == TYPED_PATH_STATUS_OUT_OF_MEMORY)
+                PyErr_NoMemory();
+            else if (status == TYPED_PATH_STATUS_TOO_SMALL)
+                raised("too_small", "(On)", all.items[place].name, (Py_ssize_t)(before + place));
+        }
+        PyMem_Free(own);
+        before += all.count;
+        emptied(&all);
+    }
+    PyMem_Free(all.items);
+    Py_DECREF(names);
+    if (buffer)
+        buffer->len = used;
+    return is_done;
+}
+
+/* _batch(names, number, as_paths): the targets, and the statuses of those that were refused. */
+static PyObject *path__batch(PyObject *self, PyObject *const *words, Py_ssize_t count)
+{
+    PyObject *const unused = NULL;
+    READ_SELF(text);
+    int as_paths = count == 3 ? PyObject_IsTrue(words[2]) : -1;
+    if (as_paths < 0)
+        return PyErr_Occurred() ? NULL : PyErr_Format(PyExc_TypeError, "it takes three words");
+    const Text none = {"", 0, NULL, false};
+    PyObject *targets = PyList_New(0), *refused = PyDict_New(), *answer = NULL;
+    if (targets && refused && are_joined(path, words[0], words[1], as_paths, refused, targets, NULL, &none))
+        answer = PyTuple_Pack(2, targets, refused);
+    Py_XDECREF(targets);
+    Py_XDECREF(refused);
+    return answer;
+}
+
+/* _batch_into(names, number, buffer, end): how many bytes were written, and those statuses. */
+static PyObject *path__batch_into(PyObject *self, PyObject *const *words, Py_ssize_t count)
+{
+    PyObject *const unused = NULL;
+    READ_SELF(text);
+    if (count != 4)
+        return PyErr_Format(PyExc_TypeError, "it takes four words");
+    Py_buffer into;
+    Text end;
+    if (!read_bytes(words[3], &end) || PyObject_GetBuffer(words[2], &into, PyBUF_WRITABLE) < 0)
+        return NULL;
+    Text buffer = {into.buf, (size_t)into.len, NULL, true};
+    PyObject *refused = PyDict_New(), *answer = NULL;
+    if (refused && are_joined(path, words[0], words[1], false, refused, NULL, &buffer, &end))
+        answer = Py_BuildValue("(nO)", (Py_ssize_t)buffer.len, refused);
+    Py_XDECREF(refused);
+    PyBuffer_Release(&into);
+    return answer;
+}
+
+/* Calls of plain texts, which answer by a str or bytes as the first text is. */
+
+static inline PyObject *text_put(Puts *call, uint32_t dialect, PyObject *from)
+{
+    Text text;
+    if (!read_text(dialect, from, &text))
+        return NULL;
+    PyObject *answer = put(call, dialect, &text, (Made){NULL, text.is_bytes});
+    Py_XDECREF(text.held);
+    return answer;
+}
+
+static inline PyObject *text_asked(Asks *call, uint32_t dialect, PyObject *from)
+{
+    Text text;
+    if (!read_text(dialect, from, &text))
+        return NULL;
+    PyObject *answer = asked(call, dialect, &text);
+    Py_XDECREF(text.held);
+    return answer;
+}
+
+/* Reads the two texts of a call. One that checks refuses a str without bytes by a status; that of another is 0. */
+static inline bool read_both(
+    uint32_t dialect, PyObject *const *words, Py_ssize_t count, Text *text, Text *other, uint32_t unwritten)
+{
+    if (count != 2) {
+        PyErr_SetString(PyExc_TypeError, "it takes two texts");
+        return false;
+    }
+    if (!read_text(dialect, words[0], text))
+        return false;
+    if (unwritten ? read_checked(dialect, words[1], other, unwritten) : read_text(dialect, words[1], other))
+        return true;
+    Py_XDECREF(text->held);
+    return false;
+}
+
+static inline PyObject *text_put_other(
+    PutsOther *call, uint32_t dialect, PyObject *const *words, Py_ssize_t count, uint32_t unwritten)
+{
+    Text text, other;
+    if (!read_both(dialect, words, count, &text, &other, unwritten))
+        return NULL;
+    PyObject *answer = put_other(call, dialect, &text, &other, (Made){NULL, text.is_bytes}, words[1]);
+    Py_XDECREF(text.held);
+    Py_XDECREF(other.held);
+    return answer;
+}
+
+static inline PyObject *text_asked_other(
+    AsksOther *call, uint32_t dialect, PyObject *const *words, Py_ssize_t count, uint32_t unwritten)
+{
+    Text text, other;
+    if (!read_both(dialect, words, count, &text, &other, unwritten))
+        return NULL;
+    PyObject *answer = asked_other(call, dialect, &text, &other);
+    Py_XDECREF(text.held);
+    Py_XDECREF(other.held);
+    return answer;
+}
+
+#define OF_TEXT(sort, name) \
+    static PyObject *unix_##name(PyObject *module, PyObject *from) \
+    { \
+        (void)module; \
+        return text_##sort(typed_path_##name, TYPED_PATH_UNIX, from); \
+    } \
+    static PyObject *windows_##name(PyObject *module, PyObject *from) \
+    { \
+        (void)module; \
+        return text_##sort(typed_path_##name, TYPED_PATH_WINDOWS, from); \
+    }
+#define OF_TEXTS(sort, name, unwritten) \
+    static PyObject *unix_##name(PyObject *module, PyObject *const *words, Py_ssize_t count) \
+    { \
+        (void)module; \
+        return text_##sort(typed_path_##name, TYPED_PATH_UNIX, words, count, unwritten); \
+    } \
+    static PyObject *windows_##name(PyObject *module, PyObject *const *words, Py_ssize_t count) \
+    { \
+        (void)module; \
+        return text_##sort(typed_path_##name, TYPED_PATH_WINDOWS, words, count, unwritten); \
+    }
+OF_TEXT(put, normalize)
+OF_TEXT(put, clean)
+OF_TEXT(asked, is_absolute)
+OF_TEXT(asked, is_valid)
+OF_TEXT(asked, is_portable)
+OF_TEXT(asked, may_be_device)
+OF_TEXT(asked, keeps_prefix)
+OF_TEXTS(put_other, join, 0)
+OF_TEXTS(put_other, join_checked, TYPED_PATH_STATUS_INVALID_FILENAME)
+OF_TEXTS(put_other, join_portable, TYPED_PATH_STATUS_NOT_TEXT)
+OF_TEXTS(put_other, resolve_checked, TYPED_PATH_STATUS_INVALID_FILENAME)
+OF_TEXTS(asked_other, is_within, 0)
+
+/* What the module has. */
+
+#define FAST(function) ((PyCFunction)(void (*)(void))(function))
+#define ALONE(name, doc) {#name, path_##name, METH_NOARGS, doc}
+#define WITH_ONE(name, doc) {#name, path_##name, METH_O, doc}
+#define WITH_WORDS(name, doc) {#name, FAST(path_##name), METH_FASTCALL, doc}
+
+static PyMethodDef path_methods[] = {
+    ALONE(normalize, DOC_normalize),
+    ALONE(clean, DOC_clean),
+    ALONE(simplified, DOC_simplified),
+    ALONE(is_absolute, DOC_is_absolute),
+    ALONE(has_root, DOC_has_root),
+    ALONE(is_valid, DOC_is_valid),
+    ALONE(is_portable, DOC_is_portable),
+    ALONE(may_be_device, DOC_may_be_device),
+    ALONE(keeps_prefix, DOC_keeps_prefix),
+    ALONE(as_posix, DOC_as_posix),
+    ALONE(_check, NULL),
+    ALONE(_check_portable, NULL),
+    ALONE(_pieces, NULL),
+    ALONE(__bytes__, NULL),
+    ALONE(__fspath__, NULL),
+    WITH_ONE(join_checked, DOC_join_checked),
+    WITH_ONE(join_portable, DOC_join_portable),
+    WITH_ONE(resolve_checked, DOC_resolve_checked),
+    WITH_ONE(is_within, DOC_is_within),
+    WITH_ONE(starts_with, DOC_starts_with),
+    WITH_ONE(ends_with, DOC_ends_with),
+    WITH_ONE(is_relative_to, DOC_is_relative_to),
+    WITH_ONE(common_ancestor, DOC_common_ancestor),
+    WITH_ONE(strip_prefix, DOC_strip_prefix),
+    WITH_ONE(_with_file_name, NULL),
+    WITH_ONE(_with_extension, NULL),
+    WITH_ONE(_absolutize, NULL),
+    WITH_ONE(_read, NULL),
+    WITH_ONE(_text, NULL),
+    WITH_ONE(_like, NULL),
+    WITH_WORDS(join, DOC_join),
+    {"joinpath", FAST(path_join), METH_FASTCALL, DOC_joinpath},
+    {"relative_to", FAST(path_relative_to), METH_FASTCALL | METH_KEYWORDS, DOC_relative_to},
+    WITH_WORDS(_convert, NULL),
+    WITH_WORDS(_batch, NULL),
+    WITH_WORDS(_batch_into, NULL),
+    {"with_segments", path_with_segments, METH_VARARGS, DOC_with_segments},
+    {"_of", path__of, METH_O | METH_CLASS, NULL},
+    {NULL, NULL, 0, NULL},
+};
+
+#define GET(name, doc) {#name, path_get_##name, NULL, doc, NULL}
+
+static PyGetSetDef path_properties[] = {
+    GET(name, DOC_name),
+    GET(stem, DOC_stem),
+    GET(extension, DOC_extension),
+    GET(suffix, DOC_suffix),
+    GET(suffixes, DOC_suffixes),
+    GET(drive, DOC_drive),
+    GET(root, DOC_root),
+    GET(anchor, DOC_anchor),
+    GET(parent, DOC_parent),
+    GET(parents, DOC_parents),
+    GET(parts, DOC_parts),
+    GET(_bytes, NULL),
+    {NULL, NULL, NULL, NULL, NULL},
+};
+
+static PyType_Slot path_slots[] = {
+    {Py_tp_doc, DOC_Path},
+    {Py_tp_new, path_new},
+    {Py_tp_init, path_init},
+    {Py_tp_dealloc, path_dealloc},
+    {Py_tp_setattro, path_setattro},
+    {Py_tp_str, path_str},
+    {Py_tp_hash, path_hash},
+    {Py_tp_richcompare, path_compared},
+    {Py_nb_true_divide, path_divided},
+    {Py_tp_methods, path_methods},
+    {Py_tp_getset, path_properties},
+    {0, NULL},
+};
+static PyType_Slot unix_slots[] = {
+    {Py_tp_doc, DOC_Unix}, {Py_tp_new, unix_new}, {Py_tp_dealloc, path_dealloc}, {0, NULL}};
+static PyType_Slot windows_slots[] = {
+    {Py_tp_doc, DOC_Windows}, {Py_tp_new, windows_new}, {Py_tp_dealloc, path_dealloc}, {0, NULL}};
+
+#define SPEC(name, slots) {"typed_path._native." name, sizeof(Path), 0, Py_TPFLAGS_DEFAULT | Py_TPFLAGS_BASETYPE, slots}
+
+static PyType_Spec path_spec = SPEC("Path", path_slots), unix_spec = SPEC("Unix", unix_slots),
+                   windows_spec = SPEC("Windows", windows_slots);
+
+#define TEXT_CALLS(dialect) \
+    { \
+        {"normalize", dialect##_normalize, METH_O, DOC_TEXT_normalize}, \
+        {"clean", dialect##_clean, METH_O, DOC_TEXT_clean}, \
+        {"is_absolute", dialect##_is_absolute, METH_O, DOC_TEXT_is_absolute}, \
+        {"is_valid", dialect##_is_valid, METH_O, DOC_TEXT_is_valid}, \
+        {"is_portable", dialect##_is_portable, METH_O, DOC_TEXT_is_portable}, \
+        {"may_be_device", dialect##_may_be_device, METH_O, DOC_TEXT_may_be_device}, \
+        {"keeps_prefix", dialect##_keeps_prefix, METH_O, DOC_TEXT_keeps_prefix}, \
+        {"join", FAST(dialect##_join), METH_FASTCALL, DOC_TEXT_join}, \
+        {"join_checked", FAST(dialect##_join_checked), METH_FASTCALL, DOC_TEXT_join_checked}, \
+        {"join_portable", FAST(dialect##_join_portable), METH_FASTCALL, DOC_TEXT_join_portable}, \
+        {"resolve_checked", FAST(dialect##_resolve_checked), METH_FASTCALL, DOC_TEXT_resolve_checked}, \
+        {"is_within", FAST(dialect##_is_within), METH_FASTCALL, DOC_TEXT_is_within}, \
+        {NULL, NULL, 0, NULL}, \
+    }
+
+static PyMethodDef unix_calls[] = TEXT_CALLS(unix), windows_calls[] = TEXT_CALLS(windows);
+
+/* derive(bytes): the number of the dialect. */
+static PyObject *derive(PyObject *module, PyObject *from)
+{
+    Text text;
+    (void)module;
+    return read_bytes(from, &text) ? PyLong_FromUnsignedLong(typed_path_derive(text.at, text.len)) : NULL;
+}
+
+static PyMethodDef module_calls[] = {{"derive", derive, METH_O, NULL}, {NULL, NULL, 0, NULL}};
+
+/* Hands a new object on to a module or a type, under a name. */
+static bool is_added(PyObject *to, const char *name, PyObject *item)
+{
+    bool is_in = item && PyObject_SetAttrString(to, name, item) == 0;
+    Py_XDECREF(item);
+    return is_in;
+}
+
+static PyObject *calls_of(const char *name, PyMethodDef *calls)
+{
+    PyObject *module = PyModule_New(name);
+    if (module && PyModule_AddFunctions(module, calls) < 0)
+        Py_CLEAR(module);
+    return module;
+}
+
+/* The type of a dialect. It tells its number and its separator to what is written in Python. */
+static bool is_type_added(PyObject *module, const char *name, PyType_Spec *spec, PyObject *bases, uint32_t dialect)
+{
+    PyObject *type = PyType_FromSpecWithBases(spec, bases);
+    bool is_whole = type && is_added(type, "_dialect", PyLong_FromUnsignedLong(dialect)) &&
+                    is_added(type, "_separator", PyUnicode_FromString(separators[dialect]));
+    if (is_whole)
+        return is_added(module, name, type);
+    Py_XDECREF(type);
+    return false;
+}
+
+static bool are_types_added(PyObject *module)
+{
+    PyObject *path = PyType_FromSpec(&path_spec), *bases = path ? PyTuple_Pack(1, path) : NULL;
+    bool are_added = bases && is_type_added(module, "Unix", &unix_spec, bases, TYPED_PATH_UNIX) &&
+                     is_type_added(module, "Windows", &windows_spec, bases, TYPED_PATH_WINDOWS);
+    Py_XDECREF(bases);
+    if (are_added)
+        return is_added(module, "Path", path);
+    Py_XDECREF(path);
+    return false;
+}
+
+/* Copies a text of _errors.py: the name of an encoding, or how its errors are read. */
+static bool is_copied(PyObject *text, char *to, size_t size)
+{
+    PyObject *raw = text && PyUnicode_Check(text) ? PyUnicode_AsUTF8String(text) : NULL;
+    Text read;
+    bool fits = raw && read_bytes(raw, &read) && read.len < size;
+    if (fits)
+        memcpy(to, read.at, read.len + 1);
+    else if (!PyErr_Occurred())
+        PyErr_SetString(PyExc_ImportError, "the encoding of names of files has no name");
+    Py_XDECREF(raw);
+    return fits;
+}
+
+/* What text is encoded by, which is one for each interpreter of a process. */
+static bool are_encodings_known(void)
+{
+    PyObject *module = PyImport_ImportModule("typed_path._errors");
+    PyObject *names = module ? PyObject_GetAttrString(module, "ENCODINGS") : NULL;
+    PyObject *how = names ? PyObject_GetAttrString(module, "ERRORS") : NULL;
+    bool are_known = how && PyTuple_Check(names) && PyTuple_Size(names) == 2 && is_copied(how, errors, sizeof errors);
+    for (uint32_t at = 0; are_known && at < 2; ++at) {
+        are_known = is_copied(PyTuple_GetItem(names, at), encodings[at], sizeof encodings[at]);
+        is_utf8[at] = strcmp(encodings[at], "utf-8") == 0;
+    }
+    Py_XDECREF(how);
+    Py_XDECREF(names);
+    Py_XDECREF(module);
+    return are_known;
+}
+
+/* Each process draws a key of its own, so no one can choose paths that have one hash. */
+static void draw_key(void)
+{
+    has_key = getentropy(key, sizeof key) == 0;
+}
+
+static int filled_module(PyObject *module)
+{
+    if (!typed_path_runs_here()) {
+        PyErr_SetString(PyExc_ImportError, "typed_path needs a processor of x86-64-v2, which has SSE4.2 and POPCNT");
+        return -1;
+    }
+    if (pthread_once(&key_once, draw_key) != 0 || !has_key) {
+        PyErr_SetString(PyExc_ImportError, "the system gives no random bytes for a key");
+        return -1;
+    }
+    bool is_whole = are_encodings_known() && are_types_added(module) &&
+                    is_added(module, "unix", calls_of("typed_path.unix", unix_calls)) &&
+                    is_added(module, "windows", calls_of("typed_path.windows", windows_calls)) &&
+                    PyModule_AddIntConstant(module, "VERSION", (long)typed_path_version()) == 0;
+    return is_whole ? 0 : -1;
+}
+
+/* Python 3.12 and later ask whether interpreters may have a lock each, by a slot that earlier ones refuse. */
+static PyModuleDef_Slot module_slots[] = {{Py_mod_exec, filled_module}, {0, NULL}, {0, NULL}};
+static struct PyModuleDef module_def = {
+    PyModuleDef_HEAD_INIT, "typed_path._native", "The paths of typed_path, as a module of C.", 0, module_calls,
+    module_slots, NULL, NULL, NULL};
+
+PyMODINIT_FUNC PyInit__native(void)
+{
+    const char *minor = strchr(Py_GetVersion(), '.');
+    if (minor && strtol(minor + 1, NULL, 10) >= 12)
+        module_slots[1] = (PyModuleDef_Slot){3, (void *)2};
+    return PyModuleDef_Init(&module_def);
+}
