@@ -25,7 +25,8 @@ import zipfile
 HERE = pathlib.Path(__file__).resolve().parent
 NAME, VERSION, BUILD = "typed_path", "0.2.0", "1_x86_64_v2"
 TAGS = {"native": "cp38-abi3-linux_x86_64", "ctypes": "py3-none-linux_x86_64"}
-SHARED, MODULE = "libtyped_path.so.0.2", "_native.abi3.so"
+SHARED = "libtyped_path.so.0.2"
+MODULE = "_native.abi3.so"
 METADATA = f"""Metadata-Version: 2.1
 Name: typed-path
 Version: {VERSION}
@@ -61,10 +62,10 @@ def text_of_c(text):
 
 
 def described():
-    """The header docs.h: a name for each docstring of the types in _library.py, and of the calls in _texts.py. Behind
-    the docstring of a call Python looks for the words that it takes."""
+    """The header docs.h: a name for each docstring of the types in __init__.py and _library.py, and of the calls in
+    _texts.py. Python reads in the docstring of a call of C which words it takes."""
     lines = []
-    for file, prefix in (("_library.py", "DOC_"), ("_texts.py", "DOC_TEXT_")):
+    for file, prefix in (("__init__.py", "DOC_"), ("_library.py", "DOC_"), ("_texts.py", "DOC_TEXT_")):
         for kind in ast.parse((HERE / "src" / NAME / file).read_text()).body:
             if isinstance(kind, ast.ClassDef) and ast.get_docstring(kind):
                 lines.append((prefix + kind.name, ast.get_docstring(kind)))

@@ -158,13 +158,14 @@ def one(header=HEADER, top=TOP):
     number = number_of(pathlib.Path(header).read_text())
     first, second, third = parts_of(number)
     single, name = first * 10000 + second * 100 + third, re.escape(shared_object(number))
-    package = "bindings/python/src/typed_path/_library.py"
+    package = "bindings/python/src/typed_path"
     for file, wanted in (
         ("crates/typed_path_c/src/lib.rt", rf"fn typed_path_version\(\) -> u32\s+ensures \{{ result ≡ {single} \}}"),
-        (package, rf"^VERSION = {single}$"),
-        (package, rf'^NAME = "{name}"$'),
+        (f"{package}/_errors.py", rf"^VERSION = {single}$"),
+        (f"{package}/__init__.py", rf'^__version__ = "{re.escape(number)}"$'),
+        (f"{package}/_library.py", rf'^NAME = "{name}"$'),
         ("bindings/python/wheel_of.py", rf'"{re.escape(number)}"'),
-        ("bindings/python/wheel_of.py", rf"/{name}\""),
+        ("bindings/python/wheel_of.py", rf'^SHARED = "{name}"$'),
         ("bindings/python/pyproject.toml", rf'^version = "{re.escape(number)}"$'),
         ("CHANGELOG.md", rf"\bnow {re.escape(number)}\b"),
         ("docs/C.md", rf"`lib/{name}`"),

@@ -1,9 +1,13 @@
-/* The module typed_path._native: the types Path, Unix and Windows of `_library.py`, as a module of C over the archive.
+/* The module typed_path._native: the types TypedPath, UnixPath and WindowsPath as types of C, over the archive.
 
-   `_library.py` describes each call; `docs.h` is made of its docstrings by wheel_of.py. The module is compiled for the
-   limited API of Python 3.8, so one file serves each later Python. It has no state but what is the same in each
-   interpreter of a process: a key for hashes, and what the text of paths is encoded by. So interpreters may have a lock
-   each. A type is known by the function that makes its objects, since a module of 3.8 cannot be asked of a type. */
+   `_library.py` describes each call, and has it over ctypes; wheel_of.py makes `docs.h` of its docstrings. `__init__.py`
+   puts into the types what is written in Python. They are the classes of the package themselves, since each object of a
+   class that is written in Python is looked at by the garbage collector, and these hold nothing that could hold them.
+
+   The module is compiled for the limited API of Python 3.8, so one file serves each later Python. It has no state but
+   what is the same in each interpreter of a process: a key for hashes, and what the text of paths is encoded by. So
+   interpreters may have a lock each. A type is known by the function that makes its objects, since a module for 3.8
+   can't be asked by what a type was made. */
 #define PY_SSIZE_T_CLEAN
 #ifndef Py_LIMITED_API
 #define Py_LIMITED_API 0x03080000
@@ -919,23 +923,19 @@ static PyObject *path_divided(PyObject *left, PyObject *right)
 
 /* How paths are made, and end. */
 
-/* Whether a class has a with_segments of its own; less than 0 where that cannot be asked. Between the class of this
-   package, as typed_path.UnixPath, and `object` stand two types of this module. */
+/* Whether a class has a with_segments of its own; less than 0 where that cannot be asked. The two types of this module
+   whose objects are made have but one between themselves and `object`. */
 static int hands_on(PyTypeObject *type)
 {
-    PyTypeObject *above = type, *first = NULL;
-    for (int depth = 1;; ++depth) {
-        PyTypeObject *next = PyType_GetSlot(above, Py_tp_base);
-        if (next == &PyBaseObject_Type) {
-            if (depth <= 3)
-                return 0;
-            first = above;
-            break;
-        }
+    PyTypeObject *above = PyType_GetSlot(type, Py_tp_base), *next = PyType_GetSlot(above, Py_tp_base);
+    if (next == &PyBaseObject_Type)
+        return 0;
+    while (next != &PyBaseObject_Type) {
         above = next;
+        next = PyType_GetSlot(above, Py_tp_base);
     }
     PyObject *own = PyObject_GetAttrString((PyObject *)type, "with_segments");
-    PyObject *ours = PyObject_GetAttrString((PyObject *)first, "with_segments");
+    PyObject *ours = PyObject_GetAttrString((PyObject *)above, "with_segments");
     int is_own = own && ours ? own != ours : -1;
     Py_XDECREF(own);
     Py_XDECREF(ours);
@@ -1453,7 +1453,7 @@ static PyGetSetDef path_properties[] = {
 };
 
 static PyType_Slot path_slots[] = {
-    {Py_tp_doc, DOC_Path},
+    {Py_tp_doc, DOC_TypedPath},
     {Py_tp_new, path_new},
     {Py_tp_init, path_init},
     {Py_tp_dealloc, path_dealloc},
@@ -1467,14 +1467,14 @@ static PyType_Slot path_slots[] = {
     {0, NULL},
 };
 static PyType_Slot unix_slots[] = {
-    {Py_tp_doc, DOC_Unix}, {Py_tp_new, unix_new}, {Py_tp_dealloc, path_dealloc}, {0, NULL}};
+    {Py_tp_doc, DOC_UnixPath}, {Py_tp_new, unix_new}, {Py_tp_dealloc, path_dealloc}, {0, NULL}};
 static PyType_Slot windows_slots[] = {
-    {Py_tp_doc, DOC_Windows}, {Py_tp_new, windows_new}, {Py_tp_dealloc, path_dealloc}, {0, NULL}};
+    {Py_tp_doc, DOC_WindowsPath}, {Py_tp_new, windows_new}, {Py_tp_dealloc, path_dealloc}, {0, NULL}};
 
-#define SPEC(name, slots) {"typed_path._native." name, sizeof(Path), 0, Py_TPFLAGS_DEFAULT | Py_TPFLAGS_BASETYPE, slots}
+#define SPEC(name, slots) {"typed_path." name, sizeof(Path), 0, Py_TPFLAGS_DEFAULT | Py_TPFLAGS_BASETYPE, slots}
 
-static PyType_Spec path_spec = SPEC("Path", path_slots), unix_spec = SPEC("Unix", unix_slots),
-                   windows_spec = SPEC("Windows", windows_slots);
+static PyType_Spec path_spec = SPEC("TypedPath", path_slots), unix_spec = SPEC("UnixPath", unix_slots),
+                   windows_spec = SPEC("WindowsPath", windows_slots);
 
 #define TEXT_CALLS(dialect) \
     { \
@@ -1536,11 +1536,11 @@ static bool is_type_added(PyObject *module, const char *name, PyType_Spec *spec,
 static bool are_types_added(PyObject *module)
 {
     PyObject *path = PyType_FromSpec(&path_spec), *bases = path ? PyTuple_Pack(1, path) : NULL;
-    bool are_added = bases && is_type_added(module, "Unix", &unix_spec, bases, TYPED_PATH_UNIX) &&
-                     is_type_added(module, "Windows", &windows_spec, bases, TYPED_PATH_WINDOWS);
+    bool are_added = bases && is_type_added(module, "UnixPath", &unix_spec, bases, TYPED_PATH_UNIX) &&
+                     is_type_added(module, "WindowsPath", &windows_spec, bases, TYPED_PATH_WINDOWS);
     Py_XDECREF(bases);
     if (are_added)
-        return is_added(module, "Path", path);
+        return is_added(module, "TypedPath", path);
     Py_XDECREF(path);
     return false;
 }

@@ -23,16 +23,14 @@ CLASSES = {"unix": UnixPath, "windows": WindowsPath}
 REFUSALS = {
     "INVALID_FILENAME": typed_path.InvalidFilename, "PATH_TRAVERSAL_ATTACK": typed_path.PathTraversalAttack,
     "UNEXPECTED_PREFIX": typed_path.UnexpectedPrefix, "UNEXPECTED_ROOT": typed_path.UnexpectedRoot,
-    "AMBIGUOUS": typed_path.Ambiguous,
+    "AMBIGUOUS": typed_path.Ambiguous, "HAS_PREFIX": typed_path.HasPrefix, "FORBIDDEN": typed_path.ForbiddenByte,
+    "DEVICE": typed_path.MayBeDevice, "ENDING": typed_path.BadEnding, "TOO_LONG": typed_path.NameTooLong,
+    "NOT_TEXT": typed_path.NotUtf8,
 }
 # What a call returns where there is no such part.
-NONE = {"file_name": "", "file_stem": "", "extension": None}
+NONE = {"file_name": "", "file_stem": "", "extension": None, "common_ancestor": b""}
 # What the package has no call for.
-CALLS_OF_C = {
-    "is_valid_name", "key_words", "prefix_names", "push_place", "check", "check_portable", "is_portable",
-    "may_be_device", "join_portable", "resolve_checked", "with_added_extension", "file_prefix", "common_ancestor",
-    "simplified",
-}
+CALLS_OF_C = {"is_valid_name", "key_words", "prefix_names", "push_place", "with_added_extension", "file_prefix"}
 # What the library takes for another name or extension, and Python refuses.
 NO_NAMES = [
     ("with_file_name", b"a/b", b""), ("with_file_name", b"a/b", b"/x"), ("with_file_name", b"a/b", b".."),
@@ -48,8 +46,11 @@ def called(call, path, other):
     """What a call answers, by the name that it has in Python."""
     if call in ("convert", "convert_checked"):
         return bytes(getattr(path, f"to_{other.decode()}{call[len('convert'):]}")())
-    if call in ("normalize", "clean", "parent"):
+    if call in ("normalize", "clean", "simplified", "parent"):
         return bytes(path.parent if call == "parent" else getattr(path, call)())
+    if call in ("check", "check_portable"):
+        type(path)("").join_checked(path) if call == "check" else path.check_portable()
+        return b""
     if call in ("file_name", "file_stem", "extension"):
         part = getattr(path, {"file_name": "name", "file_stem": "stem"}.get(call, call))
         return part if part == NONE[call] else part.encode("utf-8", "surrogateescape")
@@ -60,7 +61,7 @@ def called(call, path, other):
         return str((path > other) - (path < other)).encode()
     if call == "equal":
         return str(path == type(path)(other)).lower().encode()
-    if call in ("is_absolute", "has_root", "is_valid", "keeps_prefix"):
+    if call in ("is_absolute", "has_root", "is_valid", "is_portable", "may_be_device", "keeps_prefix"):
         return str(getattr(path, call)()).lower().encode()
     if call in ("starts_with", "ends_with", "is_within"):
         return str(getattr(path, call)(other)).lower().encode()
@@ -370,7 +371,7 @@ class Errors(unittest.TestCase):
     def test_tree(self):
         named = [getattr(typed_path, name) for name in typed_path.__all__]
         errors = [it for it in named if isinstance(it, type) and issubclass(it, Exception)]
-        self.assertEqual(len(errors), 13)
+        self.assertEqual(len(errors), 21)
         for error in errors:
             self.assertTrue(issubclass(error, typed_path.TypedPathError) and issubclass(error, ValueError))
             self.assertEqual(error.__module__, "typed_path")

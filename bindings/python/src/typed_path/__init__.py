@@ -76,11 +76,11 @@ if backend == "native":
             raise
         backend = "ctypes"
 if TYPE_CHECKING or not _module:
-    from ._library import Path as _Path, Unix as _Unix, Windows as _Windows, derive as _derive
+    from ._library import Path as _Path, derive as _derive
 else:
     if _module.VERSION != _errors.VERSION:
         raise ImportError(f"_native has version {_module.VERSION}, and this package needs {_errors.VERSION}")
-    _Path, _Unix, _Windows, _derive = _module.Path, _module.Unix, _module.Windows, _module.derive
+    _Path, _derive = object, _module.derive
 
 Name = Union[str, bytes]
 Text = Union[str, bytes, "os.PathLike[str]", "os.PathLike[bytes]"]
@@ -409,16 +409,26 @@ class TypedPath(_Path):
 NORMAL = _errors.KINDS.index("normal")
 
 
-class UnixPath(_Unix, TypedPath):
+class UnixPath(TypedPath):
     """A path of Unix."""
 
     __slots__ = ()
+    _dialect, _separator = _errors.UNIX, "/"
 
 
-class WindowsPath(_Windows, TypedPath):
+class WindowsPath(TypedPath):
     r"""A path of Windows. Where a letter of the names of files may hold a `\`, as in Big5, its text is UTF-8."""
 
     __slots__ = ()
+    _dialect, _separator = _errors.WINDOWS, "\\"
+
+
+if not TYPE_CHECKING and _module:
+    # The types of C take in what is written above, and stand for these classes.
+    for _name, _it in vars(TypedPath).items():
+        if _name not in ("__doc__", "__module__", "__slots__"):
+            setattr(_module.TypedPath, _name, _it)
+    TypedPath, UnixPath, WindowsPath = _module.TypedPath, _module.UnixPath, _module.WindowsPath
 
 
 def _fnmatch() -> Callable[[str, str], bool]:

@@ -735,17 +735,3 @@ class Path:
 
 # The one thing that sets the bytes of a path, which is new.
 _put: Callable[[Path, bytes], None] = Path.__dict__["_bytes"].__set__
-
-
-class Unix(Path):
-    """Paths of Unix."""
-
-    __slots__ = ()
-    _dialect, _separator = UNIX, "/"
-
-
-class Windows(Path):
-    r"""Paths of Windows. Where a letter of the names of files may hold a `\`, as in Big5, its text is UTF-8."""
-
-    __slots__ = ()
-    _dialect, _separator = WINDOWS, "\\"
