@@ -44,7 +44,7 @@ LEFT_OUT = {
     ("docs/C.md", "bindings/c/install.sh"): "takes what that lays out, as bindings/test.sh does",
     ("docs/C.md", "cc app.c"): "takes what that installs, as bindings/test.sh does",
     ("bindings/python/README.md", ">>>"): "run by bindings/test.sh",
-    ("bindings/python/README.md", "TYPED_PATH_LIBRARY="): "takes what bindings/c/build.sh lays out, and pip",
+    ("bindings/python/README.md", "TYPED_PATH_DIR="): "takes what bindings/c/build.sh lays out, and pip",
     ("docs/PERFORMANCE.md", "parallel "): "takes the proved program, and the package parallel",
     (TYPATH, "# over all cores"): "says what the next line does",
     (TYPATH, "parallel "): "takes the package parallel",

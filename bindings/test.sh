@@ -427,37 +427,75 @@ else
     left_out "the examples in C++" c++
 fi
 
-# Python.
+# Python, over the module of C and over ctypes.
 in_python() {
-    (cd "$here/python/tests" && "$1" -m unittest "${@:2}")
+    (cd "$here/python/tests" && TYPED_PATH_BACKEND=$1 "$2" -m unittest "${@:3}")
 }
+laid_out() {
+    TYPED_PATH_DIR=$dir TYPED_PATH_BACKEND=$1 python3 "$here/python/wheel_of.py" "$room/python"
+}
+# By one command, over what is laid out: the wheel of each backend, whose tag is true.
 is_installed() {
     local quiet=(--quiet --no-index --no-deps --no-cache-dir --disable-pip-version-check)
-    python3 -m pip install "${quiet[@]}" --target "$room/installed" "$here/python" &&
-        (cd "$room" && env -u TYPED_PATH_LIBRARY -u LD_LIBRARY_PATH PYTHONPATH="$room/installed" python3 -c '
+    TYPED_PATH_DIR=$dir TYPED_PATH_BACKEND=$1 python3 -m pip install "${quiet[@]}" --target "$room/$1" "$here/python" &&
+        (cd "$room" && env -u TYPED_PATH_LIBRARY -u LD_LIBRARY_PATH -u TYPED_PATH_BACKEND PYTHONPATH="$room/$1" python3 -c '
 import typed_path
-assert typed_path.__file__.startswith("'"$room"'/installed/")
+assert typed_path.__file__.startswith("'"$room/$1"'/") and typed_path.backend == "'"$1"'"
 assert str(typed_path.UnixPath("a") / "b") == "a/b"
-') && grep -qx 'Build: 1_x86_64_v2' "$room"/installed/typed_path-*.dist-info/WHEEL
+') && grep -qx 'Build: 1_x86_64_v2' "$room/$1"/typed_path-*.dist-info/WHEEL &&
+        grep -qx "Tag: $2" "$room/$1"/typed_path-*.dist-info/WHEEL
+}
+# Every other Python that is there takes the module as it is.
+each_version() {
+    local python
+    for python in python3.{8..14}; do
+        ! "$python" -c '' > "$room/said" 2>&1 || TYPED_PATH_BACKEND=native "$python" -c '
+import sys, typed_path
+assert typed_path.UnixPath("/srv").join_checked_batch(["a", ".."])[0] == ["/srv/a", None]
+print("wrong" if typed_path.WindowsPath("C:/a").parts != ("C:\\", "a") else sys.version)
+' || return 1
+    done
 }
 if is_there python3; then
-    for each in rows documented beside archives; do
-        part "Python, $each" in_python python3 "test_$each"
+    export PYTHONPATH=$room/python
+    backends=(ctypes)
+    if python3 -c 'import sysconfig, os; exit(not os.path.exists(sysconfig.get_paths()["include"] + "/Python.h"))'; then
+        backends=(native ctypes)
+        part "Python, the module of C is compiled" laid_out native
+        part "Python, the module in other versions" each_version
+    else
+        left_out "the module of C for Python" "Python.h"
+    fi
+    part "Python, laid out over ctypes" laid_out ctypes
+    for backend in "${backends[@]}"; do
+        for each in rows documented beside archives backends; do
+            part "Python, $each, $backend" in_python $backend python3 "test_$each"
+        done
     done
     if python3 -m pip --version > "$room/said" 2>&1; then
-        part "Python, the wheel is built and installed" is_installed
+        [[ ${#backends[@]} -eq 1 ]] ||
+            part "Python, the wheel of the module is built and installed" is_installed native cp38-abi3-linux_x86_64
+        part "Python, the wheel over ctypes is built and installed" is_installed ctypes py3-none-linux_x86_64
     else
         left_out "the wheel" "pip"
     fi
-    part "Python, names of files in one process" in_python python3 test_names_on_dask.Here
-    for python in python3 /usr/bin/python3 ""; do
-        ! "$python" -c 'import distributed' > "$room/said" 2>&1 || break
-    done
-    if [[ $python ]]; then
-        part "Python, names over Dask, a worker killed" in_python "$python" test_names_on_dask.There
-    else
-        left_out "names over Dask" "python3 with the package distributed"
-    fi
+    part "Python, names of files in one process" in_python "${backends[0]}" python3 test_names_on_dask.Here
+    # What takes a package that Python has or not, by a Python that has it.
+    while read -r package test name; do
+        for python in python3 /usr/bin/python3 ""; do
+            ! "$python" -c "import $package" > "$room/said" 2>&1 || break
+        done
+        if [[ $python ]]; then
+            part "Python, $name" in_python "${backends[0]}" "$python" "$test"
+        else
+            left_out "$name" "python3 with the package $package"
+        fi
+    done << 'END'
+distributed test_names_on_dask.There names over Dask, a worker killed
+flask test_serve_flask names that a server by Flask is sent
+hypothesis test_hypothesis random paths by Hypothesis
+test.test_pathlib test_pathlib_of_cpython the tests of CPython
+END
 else
     left_out "Python" python3
 fi

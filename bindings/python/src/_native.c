@@ -1516,7 +1516,7 @@ static bool is_added(PyObject *to, const char *name, PyObject *item)
 static PyObject *calls_of(const char *name, PyMethodDef *calls)
 {
     PyObject *module = PyModule_New(name);
-    if (module && PyModule_AddFunctions(module, calls) < 0)
+    if (module && (PyModule_AddFunctions(module, calls) < 0 || PyModule_SetDocString(module, DOC_TEXT_Texts) < 0))
         Py_CLEAR(module);
     return module;
 }
@@ -1545,33 +1545,35 @@ static bool are_types_added(PyObject *module)
     return false;
 }
 
-/* Copies a text of _errors.py: the name of an encoding, or how its errors are read. */
-static bool is_copied(PyObject *text, char *to, size_t size)
+/* Notes what text is encoded by, once, since it is one for each interpreter of a process. */
+static bool are_noted_once(const char *unix_encoding, const char *windows_encoding, const char *how)
 {
-    PyObject *raw = text && PyUnicode_Check(text) ? PyUnicode_AsUTF8String(text) : NULL;
-    Text read;
-    bool fits = raw && read_bytes(raw, &read) && read.len < size;
-    if (fits)
-        memcpy(to, read.at, read.len + 1);
-    else if (!PyErr_Occurred())
-        PyErr_SetString(PyExc_ImportError, "the encoding of names of files has no name");
-    Py_XDECREF(raw);
-    return fits;
+    static pthread_mutex_t lock = PTHREAD_MUTEX_INITIALIZER;
+    size_t most = sizeof errors - 1;
+    if (strlen(unix_encoding) > most || strlen(windows_encoding) > most || strlen(how) > most) {
+        PyErr_SetString(PyExc_ImportError, "the encoding of names of files has too long a name");
+        return false;
+    }
+    pthread_mutex_lock(&lock);
+    if (!*errors) {
+        strcpy(encodings[TYPED_PATH_UNIX], unix_encoding);
+        strcpy(encodings[TYPED_PATH_WINDOWS], windows_encoding);
+        for (size_t at = 0; at < 2; ++at)
+            is_utf8[at] = strcmp(encodings[at], "utf-8") == 0;
+        strcpy(errors, how);
+    }
+    pthread_mutex_unlock(&lock);
+    return true;
 }
 
-/* What text is encoded by, which is one for each interpreter of a process. */
 static bool are_encodings_known(void)
 {
+    const char *names[2], *how;
     PyObject *module = PyImport_ImportModule("typed_path._errors");
-    PyObject *names = module ? PyObject_GetAttrString(module, "ENCODINGS") : NULL;
-    PyObject *how = names ? PyObject_GetAttrString(module, "ERRORS") : NULL;
-    bool are_known = how && PyTuple_Check(names) && PyTuple_Size(names) == 2 && is_copied(how, errors, sizeof errors);
-    for (uint32_t at = 0; are_known && at < 2; ++at) {
-        are_known = is_copied(PyTuple_GetItem(names, at), encodings[at], sizeof encodings[at]);
-        is_utf8[at] = strcmp(encodings[at], "utf-8") == 0;
-    }
-    Py_XDECREF(how);
-    Py_XDECREF(names);
+    PyObject *encoded = module ? PyObject_CallMethod(module, "encoded_by", NULL) : NULL;
+    bool are_known =
+        encoded && PyArg_ParseTuple(encoded, "sss", &names[0], &names[1], &how) && are_noted_once(names[0], names[1], how);
+    Py_XDECREF(encoded);
     Py_XDECREF(module);
     return are_known;
 }

@@ -103,11 +103,11 @@ class Alike(unittest.TestCase):
                         self.assertEqual(*zip(written, buffers))
 
     def test_texts(self):
-        """Those of C answer as the class does, of which they are called else."""
+        """Those of C answer as those that go through a path."""
         from typed_path._texts import Texts
 
         for calls, kind in ((unix, UnixPath), (windows, WindowsPath)):
-            slow, found = Texts(kind, None), texts(kind, 300)
+            slow, found = Texts(kind), texts(kind, 300)
             for name in (it for it in vars(Texts) if not it.startswith("_")):
                 for text, other in zip(found, reversed(found)):
                     for read in (str, os.fsencode):
@@ -216,13 +216,11 @@ class Memory(unittest.TestCase):
     def test_nothing_is_lost(self):
         """By the blocks that Python counts, whose caches may keep some."""
         calls = [call for path, other in self.PATHS for call in calls_of(path, other) + calls_in_python(path)]
-        for call in calls:
-            for _ in range(5):
-                self.tried(call)
-        gc.collect()
         gc.disable()
         try:
             for call in calls:
+                for _ in range(5):
+                    self.tried(call)
                 before = sys.getallocatedblocks()
                 for _ in range(1000):
                     self.tried(call)

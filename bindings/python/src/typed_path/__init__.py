@@ -488,5 +488,5 @@ def extract_names(base: P, names: Iterable[Name], *, portable: bool = False) -> 
 
 from ._texts import Texts  # noqa: E402  which takes the classes
 
-unix = Texts(UnixPath, _module and _module.unix)
-windows = Texts(WindowsPath, _module and _module.windows)
+unix: Texts = _module.unix if _module else Texts(UnixPath)
+windows: Texts = _module.windows if _module else Texts(WindowsPath)

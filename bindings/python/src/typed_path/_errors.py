@@ -24,6 +24,11 @@ def keeps_backslashes(encoding: str) -> bool:
 ENCODINGS = (ENCODING, ENCODING if ENCODING == "utf-8" or keeps_backslashes(ENCODING) else "utf-8")
 
 
+def encoded_by() -> tuple[str, str, str]:
+    """What text is encoded by on Unix and on Windows, and how what is none is."""
+    return (*ENCODINGS, ERRORS)
+
+
 class TypedPathError(ValueError):
     """What a call of this package refuses, but for a `str` that no bytes stand for. `path` is what it was refused
     for, as it was handed in, and `base` what that was to lie below or begin with, or None."""

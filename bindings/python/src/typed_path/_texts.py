@@ -2,7 +2,7 @@
 
 from __future__ import annotations
 
-from typing import TYPE_CHECKING, Any, TypeVar, Union
+from typing import TYPE_CHECKING, TypeVar, Union
 
 if TYPE_CHECKING:
     import os
@@ -16,7 +16,8 @@ S = TypeVar("S", str, bytes)
 
 class Texts:
     """Calls of plain texts, in the manner of `posixpath` and `ntpath`: they answer by a `str` where the first text is
-    one, and by `bytes` where it is bytes. Each is what the path of that text answers, and raises what that raises.
+    one, and by `bytes` where it is bytes. Each is what the path of that text answers, and raises what that raises. The
+    module of C has its own, by these docstrings.
 
     >>> windows.join_checked(rb"C:\\out", b"a/b")
     b'C:\\\\out\\\\a/b'
@@ -25,11 +26,8 @@ class Texts:
     typed_path.PathTraversalAttack: path attempts to escape original path: '../etc/passwd'
     """
 
-    def __init__(self, kind: type[Union[UnixPath, WindowsPath]], native: Any) -> None:
+    def __init__(self, kind: type[Union[UnixPath, WindowsPath]]) -> None:
         self._kind = kind
-        for name, call in vars(native).items() if native else ():
-            if not name.startswith("_"):
-                setattr(self, name, call)
 
     def _back(self, like: S, path: Union[UnixPath, WindowsPath]) -> S:
         return bytes(path) if isinstance(like, bytes) else str(path)
