@@ -1,13 +1,15 @@
 #!/usr/bin/env bash
-# Times the calls for C beside std::filesystem, and the package of Python beside posixpath and ntpath, by turns:
+# Times the calls for C beside std::filesystem, and the package of Python beside pathlib, posixpath and ntpath, by turns:
 # nanoseconds a call, the least of SWEEPS sweeps (100) over a thousand paths of a sort, which a seed makes, and which
-# are objects already. It stops where answers differ, and prints two tables.
+# are objects already. It stops where answers differ, and prints a table of C, and two of Python, of usual and of short
+# paths, where a `!` stands at what is not as fast as the fastest of Python's own.
 # bindings/figures.sh DIR [SWEEPS]: DIR has what bindings/c/build.sh laid out.
 set -euo pipefail
 [[ $# -ge 1 ]] || { echo "figures.sh: it takes the folder that build.sh laid out" >&2 && exit 2; }
 here=$(cd "$(dirname "$0")" && pwd) dir=$(cd "$1" && pwd) room=$(mktemp -d)
 trap 'rm -rf "$room"' EXIT
-export PYTHONPATH=$here/python/src TYPED_PATH_LIBRARY=$dir/lib/libtyped_path.so PYTHONDONTWRITEBYTECODE=1
+export PYTHONPATH=$room TYPED_PATH_DIR=$dir TYPED_PATH_LIBRARY=$dir/lib/libtyped_path.so PYTHONDONTWRITEBYTECODE=1
+python3 "$here/python/wheel_of.py" "$room"
 
 g++ -std=c++17 -O2 "-I$dir/include" -o "$room/calls" -x c++ - -x none "$dir/lib/libtyped_path.a" << 'END'
 #include <chrono>
@@ -85,36 +87,19 @@ int main(int, char **words) {
 }
 END
 python3 - "$room/calls" "${2:-100}" << 'END'
-import ntpath, posixpath, random, subprocess, sys, timeit
-from typed_path import UnixPath, WindowsPath
+import random, subprocess, sys
 chosen, words = random.Random(20261128), "src lib.rs a test_data README.md images long-name-of-a-file.tar.gz".split()
-bases, sorts = ("/srv/www/data", r"C:\srv\www\data"), {}
-def checked(m, b, it):
-    return made if m.commonpath((b, m.normpath(made := m.join(b, it)))) == b else None
+bases, sorts = ("/srv/www/data", r"C:\srv\www\data"), []
 for d, sep in enumerate("/\\"):
-    for sort, fronts, ends in (("names", [""], "/"), ("dotted", ["a/b/"], ["/", "/./", "//", "/../x/"]),
-                               ("paths", [bases[d] + "/", bases[d][:-4] + "image/"], "/")):
-        sorts[sort, d] = [(chosen.choice(fronts) + "".join(chosen.choice(words) + chosen.choice(ends) for _ in range(
+    for fronts, ends in (([""], "/"), (["a/b/"], ["/", "/./", "//", "/../x/"]),
+                         ([bases[d] + "/", bases[d][:-4] + "image/"], "/")):
+        sorts += [(chosen.choice(fronts) + "".join(chosen.choice(words) + chosen.choice(ends) for _ in range(
             chosen.randrange(1, 7))) + "z").replace("/", sep) for _ in range(1000)]
 print("| Call | Unix | Windows | `std::filesystem` | By |\n|---|---|---|---|---|", flush=True)
-subprocess.run(sys.argv[1:], input="\n".join(map("\n".join, sorts.values())), text=True, check=True)
-print("\n| Here | Unix | Windows | `posixpath` | `ntpath` | By |\n|---|---|---|---|---|---|")
-for sort, ours, theirs in (
-    ("names", "b.join_checked(it)", "m.join(b, it)"), ("names", "b.join_checked(it)", "checked(m, b, it)"),
-    ("all", "b.join_checked_batch(it).targets", "[checked(m, b, name) for name in it]"),
-    ("dotted", "it.normalize()", "m.normpath(it)"), ("dotted", "it.clean()", "m.normpath(it)"),
-    ("paths", "it.is_within(b)", "m.commonpath((b, it)) == b"), ("paths", "it.relative_to(b, walk_up=True)", "m.relpath(it, b)"),
-):
-    timers, said = [], []
-    for ask in (ours, theirs):
-        for d, (kind, m) in enumerate(((UnixPath, posixpath), (WindowsPath, ntpath))):
-            items, b = [sorts["names", d]] if sort == "all" else sorts[sort, d], bases[d]
-            if ask is ours:
-                items, b = items if sort in ("names", "all") else list(map(kind, items)), kind(b)
-            given = {"m": m, "b": b, "items": items, "checked": checked}
-            timers.append(timeit.Timer(f"for it in items: {ask}", globals=given))
-            said.append(eval(f"[str({ask}) for it in items]", given))
-    assert said[:2] == said[2:], (ours, theirs)
-    least = map(min, zip(*([timer.timeit(1) for timer in timers] for _ in range(int(sys.argv[2])))))
-    print(f"| `{ours}` | " + " | ".join(f"{took * 1e6:.0f}" for took in least) + f" | `{theirs}` |")
+subprocess.run(sys.argv[1:], input="\n".join(sorts), text=True, check=True)
 END
+for sort in usual short; do
+    echo
+    OVER_CTYPES=$(TYPED_PATH_BACKEND=ctypes python3 "$here/python/figures.py" "${2:-100}" $sort here) \
+        python3 "$here/python/figures.py" "${2:-100}" $sort
+done

@@ -78,7 +78,8 @@ def taken(call, prefix):
     """The words that a call takes, as a docstring of C tells them; nothing for a property."""
     if any(isinstance(it, ast.Name) and it.id == "property" for it in call.decorator_list):
         return ""
-    words = ["$self" if prefix == "DOC_" else "$module", *(it.arg for it in call.args.args[1:]), "/"]
+    texts = [it.arg for it in call.args.posonlyargs + call.args.args if it.arg != "self"]
+    words = ["$self" if prefix == "DOC_" else "$module", *texts, "/"]
     if call.args.vararg:
         words.append(f"*{call.args.vararg.arg}")
     elif call.args.kwonlyargs:

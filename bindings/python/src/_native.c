@@ -530,12 +530,12 @@ OF_OTHER(is_within, asked_other(typed_path_is_within, path->dialect, &text, &oth
 OF_OTHER(starts_with, asked_other(typed_path_starts_with, path->dialect, &text, &other))
 OF_OTHER(ends_with, asked_other(typed_path_ends_with, path->dialect, &text, &other))
 
-/* The path that a span is, of the class of this one; itself if it is the whole. */
+/* The path that a span is, of the class of this one. */
 static PyObject *lent(Path *path, typed_path_span span)
 {
-    if (span.length == path->len && !path->hands_on) {
-        Py_INCREF(path);
-        return (PyObject *)path;
+    if (span.length == path->len) {
+        Py_INCREF(path->bytes);
+        return like_of(path, path->bytes);
     }
     return like_of(path, PyBytes_FromStringAndSize(path->at + span.start, (Py_ssize_t)span.length));
 }
@@ -1068,187 +1068,200 @@ typedef struct {
     size_t end; /* where its target ends */
 } Item;
 
-/* Names that are joined at once, and the bytes that their targets take at most. */
+/* A batch, and the run of names that is joined at once. Its targets go into a list, as paths or as the names are, or
+   into a buffer, each with an end behind it; what a name was refused for is noted by its place. */
 typedef struct {
+    Path *base;
+    PutsOther *call;
+    uint32_t unwritten; /* what a str without bytes is refused for */
+    PyObject *targets;  /* NULL for a buffer */
+    PyObject *refused;
+    bool as_paths;
+    char *buffer;
+    size_t buffer_size, used;
+    Text end;
     Item *items;
-    size_t count, room, size;
-} Items;
+    size_t count, room;
+    size_t size;   /* the bytes that the targets of the run take at most */
+    size_t before; /* how many names stand before the run */
+    int are_bytes; /* whether the names are bytes; less than 0 before the first one */
+} Batch;
 
-static void emptied(Items *all)
+static void forget_run(Batch *batch)
 {
-    for (size_t at = 0; at < all->count; ++at) {
-        Py_DECREF(all->items[at].name);
-        Py_XDECREF(all->items[at].text.held);
+    for (size_t at = 0; at < batch->count; ++at) {
+        Py_DECREF(batch->items[at].name);
+        Py_XDECREF(batch->items[at].text.held);
     }
-    all->count = all->size = 0;
+    batch->before += batch->count;
+    batch->count = batch->size = 0;
 }
 
-static bool has_room(Items *all)
+/* Where the next name is noted, or NULL. */
+static Item *next_item(Batch *batch)
 {
-    if (all->count < all->room)
-        return true;
-    size_t room = all->room ? 2 * all->room : 64;
-    Item *items = PyMem_Realloc(all->items, room * sizeof *items);
-    if (!items) {
-        PyErr_NoMemory();
-        return false;
+    if (batch->count == batch->room) {
+        size_t room = batch->room ? 2 * batch->room : 64;
+        Item *items = PyMem_Realloc(batch->items, room * sizeof *items);
+        if (!items) {
+            PyErr_NoMemory();
+            return NULL;
+        }
+        batch->items = items;
+        batch->room = room;
     }
-    all->items = items;
-    all->room = room;
-    return true;
+    return &batch->items[batch->count];
 }
 
-/* Reads the bytes of a name, which is a str or bytes as the first one is. A str that no bytes stand for has the status
-   of a name that is refused for it. */
-static bool read_name(uint32_t dialect, PyObject *name, Item *item, uint32_t unwritten, int *are_bytes)
+/* Reads the bytes of a name, which is a str or bytes as the first one is. */
+static bool read_name(Batch *batch, PyObject *name, Item *item)
 {
     bool is_bytes = PyBytes_Check(name);
-    if ((!is_bytes && !PyUnicode_Check(name)) || (*are_bytes >= 0 && *are_bytes != is_bytes)) {
+    if ((!is_bytes && !PyUnicode_Check(name)) || (batch->are_bytes >= 0 && batch->are_bytes != is_bytes)) {
         PyErr_SetString(PyExc_TypeError, "names have to be all str, or all bytes");
         return false;
     }
-    *are_bytes = is_bytes;
+    batch->are_bytes = is_bytes;
     *item = (Item){name, {"", 0, NULL, is_bytes}, TYPED_PATH_STATUS_DONE, 0};
-    if (is_bytes ? read_bytes(name, &item->text) : read_str(dialect, name, &item->text))
+    if (is_bytes ? read_bytes(name, &item->text) : read_str(batch->base->dialect, name, &item->text))
         return true;
     if (!PyErr_ExceptionMatches(PyExc_UnicodeEncodeError))
         return false;
     PyErr_Clear();
-    item->status = unwritten;
+    item->status = batch->unwritten;
     return true;
 }
 
-/* Takes names, as many as are joined at once; less than 0 for an error, 0 if there are no more. */
-static int taken(Items *all, PyObject *names, const Path *base, size_t end_len, uint32_t unwritten, int *are_bytes)
+/* Takes a run of names; less than 0 for an error, 0 if there are no more behind it. */
+static int take_run(Batch *batch, PyObject *names)
 {
-    while (all->count < NAMES_AT_ONCE) {
+    while (batch->count < NAMES_AT_ONCE) {
         PyObject *name = PyIter_Next(names);
         if (!name)
             return PyErr_Occurred() ? -1 : 0;
-        if (!has_room(all) || !read_name(base->dialect, name, &all->items[all->count], unwritten, are_bytes)) {
+        Item *item = next_item(batch);
+        if (!item || !read_name(batch, name, item)) {
             Py_DECREF(name);
             return -1;
         }
-        all->size += TYPED_PATH_RESOLVE_BOUND(base->len, all->items[all->count].text.len) + end_len;
-        ++all->count;
+        batch->size += TYPED_PATH_RESOLVE_BOUND(batch->base->len, item->text.len) + batch->end.len;
+        ++batch->count;
     }
     return 1;
 }
 
-/* Joins the names, without the lock of Python: their targets stand behind each other in `out`, with `end` behind each.
-   The status is that of the first name which was not judged, whose place is told, or that all were. */
-static uint32_t join_all(
-    PutsOther *call, const Path *base, Items *all, char *out, size_t size, const Text *end, size_t *used, size_t *place)
+/* Joins the names of the run without the lock of Python. Their targets stand behind each other in `out`, from `used` on.
+   The place is that of the first name that has no room or no memory, whose status is returned. */
+static uint32_t join_run(Batch *batch, char *out, size_t size, size_t *place)
 {
-    for (size_t at = 0; at < all->count; ++at) {
-        Item *item = &all->items[at];
-        size_t len, room = size - *used;
-        *place = at;
+    const Path *base = batch->base;
+    size_t used = batch->used, len = 0;
+    uint32_t status = TYPED_PATH_STATUS_DONE;
+    PyThreadState *lock = PyEval_SaveThread();
+    for (size_t at = 0; at < batch->count; ++at) {
+        Item *item = &batch->items[at];
+        size_t room = size - used;
         if (item->status == TYPED_PATH_STATUS_DONE)
             item->status =
-                call(base->dialect, base->at, base->len, item->text.at, item->text.len, out + *used, room, &len);
-        if (item->status == TYPED_PATH_STATUS_DONE && room - len < end->len)
+                batch->call(base->dialect, base->at, base->len, item->text.at, item->text.len, out + used, room, &len);
+        if (item->status == TYPED_PATH_STATUS_DONE && room - len < batch->end.len)
             item->status = TYPED_PATH_STATUS_TOO_SMALL;
-        if (item->status == TYPED_PATH_STATUS_TOO_SMALL || item->status == TYPED_PATH_STATUS_OUT_OF_MEMORY)
-            return item->status;
-        if (item->status == TYPED_PATH_STATUS_DONE) {
-            memcpy(out + *used + len, end->at, end->len);
-            *used += len + end->len;
+        if (item->status == TYPED_PATH_STATUS_TOO_SMALL || item->status == TYPED_PATH_STATUS_OUT_OF_MEMORY) {
+            status = item->status;
+            *place = at;
+            break;
         }
-        item->end = *used;
+        if (item->status == TYPED_PATH_STATUS_DONE) {
+            memcpy(out + used + len, batch->end.at, batch->end.len);
+            used += len + batch->end.len;
+        }
+        item->end = used;
     }
-    return TYPED_PATH_STATUS_DONE;
+    PyEval_RestoreThread(lock);
+    batch->used = used;
+    return status;
 }
 
-/* Notes the status of each name that was refused, by its place. */
-static bool are_noted(PyObject *refused, const Items *all, size_t before)
+/* Notes the status of each name of the run that was refused. */
+static bool is_run_noted(const Batch *batch)
 {
     bool is_noted = true;
-    for (size_t at = 0; is_noted && at < all->count; ++at)
-        if (all->items[at].status != TYPED_PATH_STATUS_DONE) {
-            PyObject *place = PyLong_FromSize_t(before + at);
-            PyObject *status = PyLong_FromUnsignedLong(all->items[at].status);
-            is_noted = place && status && PyDict_SetItem(refused, place, status) == 0;
+    for (size_t at = 0; is_noted && at < batch->count; ++at)
+        if (batch->items[at].status != TYPED_PATH_STATUS_DONE) {
+            PyObject *place = PyLong_FromSize_t(batch->before + at);
+            PyObject *status = PyLong_FromUnsignedLong(batch->items[at].status);
+            is_noted = place && status && PyDict_SetItem(batch->refused, place, status) == 0;
             Py_XDECREF(place);
             Py_XDECREF(status);
         }
     return is_noted;
 }
 
-/* Puts the targets into a list: None for a name that was refused. */
-static bool are_listed(PyObject *targets, const Items *all, const Path *base, Made made, const char *out)
+/* Puts the targets of the run into the list: None for a name that was refused. */
+static bool is_run_listed(const Batch *batch, const char *out)
 {
+    Made made = {batch->as_paths ? batch->base : NULL, batch->are_bytes > 0};
     size_t start = 0;
-    for (size_t at = 0; at < all->count; ++at) {
-        const Item *item = &all->items[at];
+    for (size_t at = 0; at < batch->count; ++at) {
+        const Item *item = &batch->items[at];
         PyObject *target = Py_None;
         if (item->status == TYPED_PATH_STATUS_DONE)
-            target = made_of(made, base->dialect, out + start, item->end - start);
+            target = made_of(made, batch->base->dialect, out + start, item->end - start);
         else
             Py_INCREF(target);
-        if (!is_put_behind(targets, target))
+        if (!is_put_behind(batch->targets, target))
             return false;
         start = item->end;
     }
     return true;
 }
 
-/* The call of a batch by its number, and what a str without bytes is refused for there. */
-static PutsOther *batched(PyObject *number, uint32_t *unwritten)
+/* Joins the run, and hands its targets on. */
+static bool is_run_done(Batch *batch)
 {
-    static PutsOther *const calls[] = {typed_path_join_checked, typed_path_join_portable, typed_path_resolve_checked};
-    unsigned long at = PyLong_AsUnsignedLong(number);
-    *unwritten = at == 1 ? TYPED_PATH_STATUS_NOT_TEXT : TYPED_PATH_STATUS_INVALID_FILENAME;
-    if (at < sizeof calls / sizeof *calls)
-        return calls[at];
-    if (!PyErr_Occurred())
-        PyErr_SetString(PyExc_ValueError, "there is no such call");
-    return NULL;
+    char *own = batch->targets ? PyMem_Malloc(batch->size) : NULL;
+    if (batch->targets && !own) {
+        PyErr_NoMemory();
+        return false;
+    }
+    size_t place = 0;
+    if (own)
+        batch->used = 0;
+    uint32_t status = own ? join_run(batch, own, batch->size, &place)
+                          : join_run(batch, batch->buffer, batch->buffer_size, &place);
+    bool is_done = status == TYPED_PATH_STATUS_DONE && is_run_noted(batch) && (!own || is_run_listed(batch, own));
+    if (status == TYPED_PATH_STATUS_OUT_OF_MEMORY)
+        PyErr_NoMemory();
+    else if (status == TYPED_PATH_STATUS_TOO_SMALL)
+        raised("too_small", "(On)", batch->items[place].name, (Py_ssize_t)(batch->before + place));
+    PyMem_Free(own);
+    return is_done;
 }
 
-/* Joins all names to a base: into a list of targets, or behind each other into a buffer. What they were refused for is
-   noted by their places. */
-static bool are_joined(
-    Path *base, PyObject *names, PyObject *number, bool as_paths, PyObject *refused, PyObject *targets, Text *buffer,
-    const Text *end)
+/* Joins all names, by a call of this number. */
+static bool are_joined(Batch *batch, PyObject *number, PyObject *names)
 {
-    uint32_t unwritten, status = TYPED_PATH_STATUS_DONE;
-    PutsOther *call = batched(number, &unwritten);
-    if (!call || !(names = PyObject_GetIter(names)))
+    static PutsOther *const calls[] = {typed_path_join_checked, typed_path_join_portable, typed_path_resolve_checked};
+    unsigned long which = PyLong_AsUnsignedLong(number);
+    if (which >= sizeof calls / sizeof *calls) {
+        if (!PyErr_Occurred())
+            PyErr_SetString(PyExc_ValueError, "there is no such call");
         return false;
-    Items all = {NULL, 0, 0, 0};
-    size_t before = 0, used = 0, place = 0;
-    int more = 1, are_bytes = -1;
-    bool is_done = true;
-    while (is_done && more > 0) {
-        more = taken(&all, names, base, end->len, unwritten, &are_bytes);
-        char *own = more >= 0 && targets && all.count ? PyMem_Malloc(all.size) : NULL;
-        char *out = targets ? own : (char *)buffer->at;
-        is_done = more >= 0;
-        if (is_done && targets && all.count && !own) {
-            PyErr_NoMemory();
-            is_done = false;
-        } else if (is_done && all.count) {
-            used = targets ? 0 : used;
-            PyThreadState *lock = PyEval_SaveThread();
-            status = join_all(call, base, &all, out, targets ? all.size : buffer->len, end, &used, &place);
-            PyEval_RestoreThread(lock);
-            is_done = status == TYPED_PATH_STATUS_DONE && are_noted(refused, &all, before) &&
-                      (!targets || are_listed(targets, &all, base, (Made){as_paths ? base : NULL, are_bytes > 0}, own));
-            if (status == TYPED_PATH_STATUS_OUT_OF_MEMORY)
-                PyErr_NoMemory();
-            else if (status == TYPED_PATH_STATUS_TOO_SMALL)
-                raised("too_small", "(On)", all.items[place].name, (Py_ssize_t)(before + place));
-        }
-        PyMem_Free(own);
-        before += all.count;
-        emptied(&all);
     }
-    PyMem_Free(all.items);
-    Py_DECREF(names);
-    if (buffer)
-        buffer->len = used;
-    return is_done;
+    batch->call = calls[which];
+    batch->unwritten = which == 1 ? TYPED_PATH_STATUS_NOT_TEXT : TYPED_PATH_STATUS_INVALID_FILENAME;
+    batch->are_bytes = -1;
+    PyObject *iterator = PyObject_GetIter(names);
+    int more = iterator ? 1 : -1;
+    while (more > 0) {
+        more = take_run(batch, iterator);
+        if (more >= 0 && batch->count && !is_run_done(batch))
+            more = -1;
+        forget_run(batch);
+    }
+    PyMem_Free(batch->items);
+    Py_XDECREF(iterator);
+    return more == 0;
 }
 
 /* _batch(names, number, as_paths): the targets, and the statuses of those that were refused. */
@@ -1259,12 +1272,14 @@ static PyObject *path__batch(PyObject *self, PyObject *const *words, Py_ssize_t 
     int as_paths = count == 3 ? PyObject_IsTrue(words[2]) : -1;
     if (as_paths < 0)
         return PyErr_Occurred() ? NULL : PyErr_Format(PyExc_TypeError, "it takes three words");
-    const Text none = {"", 0, NULL, false};
-    PyObject *targets = PyList_New(0), *refused = PyDict_New(), *answer = NULL;
-    if (targets && refused && are_joined(path, words[0], words[1], as_paths, refused, targets, NULL, &none))
-        answer = PyTuple_Pack(2, targets, refused);
-    Py_XDECREF(targets);
-    Py_XDECREF(refused);
+    Batch batch = {.base = path, .as_paths = as_paths, .end = {"", 0, NULL, false}};
+    PyObject *answer = NULL;
+    batch.targets = PyList_New(0);
+    batch.refused = PyDict_New();
+    if (batch.targets && batch.refused && are_joined(&batch, words[1], words[0]))
+        answer = PyTuple_Pack(2, batch.targets, batch.refused);
+    Py_XDECREF(batch.targets);
+    Py_XDECREF(batch.refused);
     return answer;
 }
 
@@ -1275,15 +1290,17 @@ static PyObject *path__batch_into(PyObject *self, PyObject *const *words, Py_ssi
     READ_SELF(text);
     if (count != 4)
         return PyErr_Format(PyExc_TypeError, "it takes four words");
+    Batch batch = {.base = path};
     Py_buffer into;
-    Text end;
-    if (!read_bytes(words[3], &end) || PyObject_GetBuffer(words[2], &into, PyBUF_WRITABLE) < 0)
+    if (!read_bytes(words[3], &batch.end) || PyObject_GetBuffer(words[2], &into, PyBUF_WRITABLE) < 0)
         return NULL;
-    Text buffer = {into.buf, (size_t)into.len, NULL, true};
-    PyObject *refused = PyDict_New(), *answer = NULL;
-    if (refused && are_joined(path, words[0], words[1], false, refused, NULL, &buffer, &end))
-        answer = Py_BuildValue("(nO)", (Py_ssize_t)buffer.len, refused);
-    Py_XDECREF(refused);
+    batch.buffer = into.buf;
+    batch.buffer_size = (size_t)into.len;
+    PyObject *answer = NULL;
+    batch.refused = PyDict_New();
+    if (batch.refused && are_joined(&batch, words[1], words[0]))
+        answer = Py_BuildValue("(nO)", (Py_ssize_t)batch.used, batch.refused);
+    Py_XDECREF(batch.refused);
     PyBuffer_Release(&into);
     return answer;
 }

@@ -238,7 +238,7 @@ class TypedPath(_Path):
         return self._batch_of(names, 0)
 
     def join_portable_batch(self, names: Iterable[Name]) -> Batch:
-        """The same by `join_portable`.
+        """`join_checked_batch` by `join_portable`.
 
         >>> UnixPath("/srv").join_portable_batch(["a/b", "nul"])
         Batch(targets=['/srv/a/b', None], refusals={1: <class 'typed_path.MayBeDevice'>})
@@ -246,7 +246,7 @@ class TypedPath(_Path):
         return self._batch_of(names, 1)
 
     def resolve_checked_batch(self, names: Iterable[Name]) -> Batch:
-        """The same by `resolve_checked`.
+        """`join_checked_batch` by `resolve_checked`.
 
         >>> UnixPath("/srv").resolve_checked_batch(["a/./b", ".."])
         Batch(targets=['/srv/a/b', None], refusals={1: <class 'typed_path.PathTraversalAttack'>})
@@ -270,7 +270,7 @@ class TypedPath(_Path):
         return self._into(names, 0, buffer, end)
 
     def join_portable_into(self, names: Iterable[Name], buffer: Any, end: bytes = b"\n") -> Written:
-        """The same of `join_portable_batch`."""
+        """`join_checked_into` by `join_portable`."""
         return self._into(names, 1, buffer, end)
 
     def _into(self, names: Iterable[Name], number: int, buffer: Any, end: bytes) -> Written:
@@ -389,11 +389,11 @@ class TypedPath(_Path):
         return self._converted(WindowsPath, False)
 
     def to_unix_checked(self) -> UnixPath:
-        """The same by checked joins. Raises what the first component that offends there is refused for."""
+        """`to_unix` by checked joins. Raises what the first component that offends there is refused for."""
         return self._converted(UnixPath, True)
 
     def to_windows_checked(self) -> WindowsPath:
-        """The same by checked joins. Raises what the first component that offends there is refused for.
+        """`to_windows` by checked joins. Raises what the first component that offends there is refused for.
 
         >>> UnixPath("/tmp/aux.h").to_windows_checked()
         Traceback (most recent call last):

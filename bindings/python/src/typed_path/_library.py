@@ -478,15 +478,15 @@ class Path:
         """The status of why it is not portable."""
         return _judges["check_portable"](self._dialect, self._bytes, len(self._bytes))
 
-    def starts_with(self, base: Text) -> bool:
+    def starts_with(self, base: Text, /) -> bool:
         """Whether it begins with the components of the base, as they are written. No check of containment."""
         return self._asked("starts_with", base)
 
-    def ends_with(self, end: Text) -> bool:
+    def ends_with(self, end: Text, /) -> bool:
         """Whether it ends with the components of the other, as they are written."""
         return self._asked("ends_with", end)
 
-    def is_within(self, base: Text) -> bool:
+    def is_within(self, base: Text, /) -> bool:
         r"""Whether it lies at the base or below it, from whatever directory both are read. It judges names that no file
         has, so ask `is_valid` too.
 
@@ -505,7 +505,7 @@ class Path:
         """
         return self._asked("keeps_prefix")
 
-    def strip_prefix(self: P, base: Text) -> P:
+    def strip_prefix(self: P, base: Text, /) -> P:
         """What is left behind the base. Raises `StripPrefixError`, a `ValueError`, where it does not begin with it.
 
         >>> UnixPath("/a/./b/c").strip_prefix("/a")
@@ -516,7 +516,7 @@ class Path:
             raise _errors.not_a_beginning(self, base)
         return self._like(found)
 
-    def common_ancestor(self: P, other: Text) -> P:
+    def common_ancestor(self: P, other: Text, /) -> P:
         """The front of this path up to where the components end with which the other begins too, as they are written;
         the empty path where the two begin with none alike. `os.path.commonpath` asks the same.
 
@@ -550,8 +550,8 @@ class Path:
         """
         return self.join(*others)
 
-    def join_checked(self: P, other: Text) -> P:
-        r"""The same of one path, which must not lead out: what it returns lies within this path, if that
+    def join_checked(self: P, other: Text, /) -> P:
+        r"""`join` of one path, which must not lead out: what it returns lies within this path, if that
         `keeps_prefix`. Raises what the first component that offends is refused for, a `CheckedPathError`. A `str` that
         `os.fsencode` refuses is no allowed name either. An empty path, `.` and `a/..` lead to this path itself. The
         refusal has the component in `name`, and in `place` how many stand before it.
@@ -569,7 +569,7 @@ class Path:
         """
         return self._put("join_checked", self._read_checked(other, INVALID_FILENAME), other)
 
-    def join_portable(self: P, other: Text) -> P:
+    def join_portable(self: P, other: Text, /) -> P:
         """`join_checked` of a path that is portable too: every system takes each name as it is written, and no version
         of Windows takes one for a device. Raises a `NotPortable` for one that is not, else what `join_checked` raises.
         This path itself need not be portable.
@@ -582,7 +582,7 @@ class Path:
         """
         return self._put("join_portable", self._read_checked(other, NOT_TEXT), other)
 
-    def resolve_checked(self: P, other: Text) -> P:
+    def resolve_checked(self: P, other: Text, /) -> P:
         """The clean path of a checked join, refused as that is, and within this path as that is.
 
         >>> UnixPath("/srv").resolve_checked("a/./../b"), UnixPath("/srv").resolve_checked(".")
@@ -612,7 +612,7 @@ class Path:
         """
         return self._put("clean")
 
-    def relative_to(self: P, base: Text, *, walk_up: bool = False) -> P:
+    def relative_to(self: P, base: Text, /, *, walk_up: bool = False) -> P:
         """The names that lead from the base to this path; `.` where both lead alike. Raises `NoRelativePath`, a
         `ValueError`, where it does not lie at the base or below it, or no relative path leads there. With `walk_up`
         the path may begin with `..`, as `os.path.relpath` has it, and it is raised for the latter alone.
@@ -633,7 +633,7 @@ class Path:
             raise _errors.not_below(self, base)
         return self._like(found)
 
-    def is_relative_to(self, base: Text) -> bool:
+    def is_relative_to(self, base: Text, /) -> bool:
         """Whether `relative_to` returns a path. `is_within` is the question whether it lies within the base: it is
         true also where no relative path leads there.
 

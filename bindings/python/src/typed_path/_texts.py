@@ -32,7 +32,7 @@ class Texts:
     def _back(self, like: S, path: Union[UnixPath, WindowsPath]) -> S:
         return bytes(path) if isinstance(like, bytes) else str(path)
 
-    def join(self, path: S, other: Text) -> S:
+    def join(self, path: S, other: Text, /) -> S:
         """The text with another pushed onto it.
 
         >>> unix.join("/a", "b"), unix.join("/a", "/b")
@@ -40,23 +40,23 @@ class Texts:
         """
         return self._back(path, self._kind(path).join(other))
 
-    def join_checked(self, path: S, other: Text) -> S:
-        """The same of one that must not lead out.
+    def join_checked(self, path: S, other: Text, /) -> S:
+        """The text with another pushed onto it that must not lead out.
 
         >>> unix.join_checked("/srv", "a/../b")
         '/srv/a/../b'
         """
         return self._back(path, self._kind(path).join_checked(other))
 
-    def join_portable(self, path: S, other: Text) -> S:
-        """The same of one that is portable too.
+    def join_portable(self, path: S, other: Text, /) -> S:
+        """`join_checked` of a text that is portable too.
 
         >>> unix.join_portable(b"/srv", "a/b")
         b'/srv/a/b'
         """
         return self._back(path, self._kind(path).join_portable(other))
 
-    def resolve_checked(self, path: S, other: Text) -> S:
+    def resolve_checked(self, path: S, other: Text, /) -> S:
         """The clean text of a checked join.
 
         >>> unix.resolve_checked("/srv", "a/../b")
@@ -64,7 +64,7 @@ class Texts:
         """
         return self._back(path, self._kind(path).resolve_checked(other))
 
-    def normalize(self, path: S) -> S:
+    def normalize(self, path: S, /) -> S:
         """The text without `.`, and without `..` and the names that these take away.
 
         >>> unix.normalize("a/../b/./c"), unix.normalize("../a")
@@ -72,15 +72,16 @@ class Texts:
         """
         return self._back(path, self._kind(path).normalize())
 
-    def clean(self, path: S) -> S:
-        """The same, but a relative one keeps the `..` that it needs, and nothing is `.`.
+    def clean(self, path: S, /) -> S:
+        """The text without `.`, doubled separators and names that a `..` takes away. A relative one keeps the `..` that it
+        needs, and nothing is `.`.
 
         >>> unix.clean("../a/."), unix.clean("a/..")
         ('../a', '.')
         """
         return self._back(path, self._kind(path).clean())
 
-    def is_within(self, path: Text, base: Text) -> bool:
+    def is_within(self, path: Text, base: Text, /) -> bool:
         """Whether a path lies at the base or below it.
 
         >>> unix.is_within("/srv/a", "/srv"), unix.is_within("/srv/../etc", "/srv")
@@ -88,22 +89,22 @@ class Texts:
         """
         return self._kind(path).is_within(base)
 
-    def is_absolute(self, path: Text) -> bool:
+    def is_absolute(self, path: Text, /) -> bool:
         """Whether it leads to one place from every directory."""
         return self._kind(path).is_absolute()
 
-    def is_valid(self, path: Text) -> bool:
+    def is_valid(self, path: Text, /) -> bool:
         """Whether each name is allowed."""
         return self._kind(path).is_valid()
 
-    def is_portable(self, path: Text) -> bool:
+    def is_portable(self, path: Text, /) -> bool:
         """Whether every system takes each component as it is written."""
         return self._kind(path).is_portable()
 
-    def may_be_device(self, path: Text) -> bool:
+    def may_be_device(self, path: Text, /) -> bool:
         """Whether some version of Windows may take a name for a device."""
         return self._kind(path).may_be_device()
 
-    def keeps_prefix(self, path: Text) -> bool:
+    def keeps_prefix(self, path: Text, /) -> bool:
         """Whether what is joined to it keeps its prefix."""
         return self._kind(path).keeps_prefix()
