@@ -479,6 +479,7 @@ if is_there python3; then
     else
         left_out "the wheel" "pip"
     fi
+    part "Python, types" in_python "${backends[0]}" python3 test_typed
     part "Python, names of files in one process" in_python "${backends[0]}" python3 test_names_on_dask.Here
     # What takes a package that Python has or not, by a Python that has it.
     while read -r package test name; do

@@ -1,46 +1,14 @@
-"""What the docstrings and the README show, that each call has a docstring, and that types are as they are told."""
+"""What the docstrings and the README show, and that each call has a docstring."""
 
 import doctest
-import os
+import inspect
 import pathlib
-import shutil
-import subprocess
-import tempfile
 import unittest
 
 import typed_path
+from typed_path import _library
 
 TOP = pathlib.Path(__file__).parents[1]
-
-# What a program may rely on, and last what it may not write.
-TYPED = """
-import os
-from typing import Tuple
-
-from typed_path import CheckedPathError, TypedPath, UnixPath, WindowsPath, extract_names
-
-
-class Tagged(UnixPath):
-    tag: str = ""
-
-
-path: UnixPath = "a" / UnixPath("b", b"c") / WindowsPath("d").to_unix()
-tagged: Tagged = Tagged("a").joinpath("b").with_name("c").parent
-above: Tuple[Tagged, ...] = tagged.parents
-names: Tuple[str, ...] = path.parts
-held: "os.PathLike[str]" = path
-with open(path) as file:
-    text: str = file.read()
-for name, target in extract_names(path, ["a"]).targets:
-    print(name, target)
-try:
-    path.join_checked("..")
-except CheckedPathError as refusal:
-    place: "int | None" = refusal.place
-print(sorted([path, tagged]), {path: 1}, path < tagged)
-path.tag = 1  # type: ignore[attr-defined]
-path.name = "a"  # type: ignore[misc]
-"""
 
 
 class Documented(unittest.TestCase):
@@ -49,24 +17,17 @@ class Documented(unittest.TestCase):
             kind = getattr(typed_path, name)
             self.assertTrue(kind.__doc__, name)
             for call, it in vars(kind).items() if isinstance(kind, type) and not issubclass(kind, tuple) else ():
-                if not call.startswith("_") and (callable(it) or isinstance(it, property)):
+                if not call.startswith("_") and (callable(it) or inspect.isdatadescriptor(it)):
                     self.assertTrue(it.__doc__, (name, call))
-
-
-@unittest.skipUnless(shutil.which("mypy"), "there is no mypy")
-class Typed(unittest.TestCase):
-    def test_strictly(self):
-        with tempfile.TemporaryDirectory() as room:
-            program = pathlib.Path(room, "program.py")
-            program.write_text(TYPED)
-            words = ["mypy", "--strict", f"--cache-dir={room}", "-p", "typed_path"]
-            env = {**os.environ, "MYPYPATH": str(TOP / "src")}
-            for what in (words, [*words[:3], *map(str, [*(TOP / "examples").glob("*.py"), program])]):
-                done = subprocess.run(what, env=env, stdout=subprocess.PIPE, stderr=subprocess.STDOUT)
-                self.assertEqual((done.returncode, done.stdout.decode()[:7]), (0, "Success"), done.stdout.decode())
+        for calls in (typed_path.unix, typed_path.windows):
+            for call in (it for it in vars(typed_path._texts.Texts) if not it.startswith("_")):
+                self.assertTrue(getattr(calls, call).__doc__, call)
 
 
 def load_tests(loader, tests, pattern):
+    """The examples of the package, and of what describes the types, whichever backend answers."""
     tests.addTests(doctest.DocTestSuite(typed_path))
+    for module in (_library, typed_path._texts):
+        tests.addTests(doctest.DocTestSuite(module, globs=vars(typed_path).copy()))
     tests.addTests(doctest.DocFileSuite(str(TOP / "README.md"), module_relative=False))
     return tests
