@@ -449,7 +449,7 @@ assert str(typed_path.UnixPath("a") / "b") == "a/b"
 each_version() {
     local python
     for python in python3.{8..14}; do
-        ! "$python" -c '' > "$room/said" 2>&1 || TYPED_PATH_BACKEND=native "$python" -c '
+        ! "$python" -c '' > "$room/said" 2>&1 || LD_BIND_NOW=1 TYPED_PATH_BACKEND=native "$python" -c '
 import sys, typed_path
 assert typed_path.UnixPath("/srv").join_checked_batch(["a", ".."])[0] == ["/srv/a", None]
 print("wrong" if typed_path.WindowsPath("C:/a").parts != ("C:\\", "a") else sys.version)

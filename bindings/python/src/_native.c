@@ -296,7 +296,6 @@ static PyObject *made_of(Made made, uint32_t dialect, const char *at, size_t len
 typedef uint32_t Puts(uint32_t, const char *, size_t, char *, size_t, size_t *);
 typedef uint32_t PutsOther(uint32_t, const char *, size_t, const char *, size_t, char *, size_t, size_t *);
 typedef uint32_t Spans(uint32_t, const char *, size_t, typed_path_span *);
-typedef uint32_t SpansOther(uint32_t, const char *, size_t, const char *, size_t, typed_path_span *);
 typedef uint32_t Asks(uint32_t, const char *, size_t, bool *);
 typedef uint32_t AsksOther(uint32_t, const char *, size_t, const char *, size_t, bool *);
 

@@ -28,8 +28,9 @@ True
 from __future__ import annotations
 
 import os
+from fnmatch import fnmatchcase
 from types import MemberDescriptorType
-from typing import TYPE_CHECKING, Any, Callable, Iterable, NamedTuple, TypeVar, Union
+from typing import TYPE_CHECKING, Any, Iterable, NamedTuple, TypeVar, Union
 
 from . import _errors
 from ._errors import (
@@ -188,11 +189,11 @@ class TypedPath(_Path):
         if wanted_anchor:
             return (
                 len(names) == len(wanted) and self._is_anchor(anchor, wanted_anchor)
-                and all(map(_fnmatch(), names, wanted))
+                and all(map(fnmatchcase, names, wanted))
             )
         if not wanted:
             raise TypedPathError(f"{pattern!r} is an empty pattern", pattern)
-        return len(names) >= len(wanted) and all(map(_fnmatch(), names[::-1], wanted[::-1]))
+        return len(names) >= len(wanted) and all(map(fnmatchcase, names[::-1], wanted[::-1]))
 
     def full_match(self, pattern: Text) -> bool:
         """Whether the whole path matches a pattern, in which `**` stands for any number of parts. The anchor matches an
@@ -207,12 +208,12 @@ class TypedPath(_Path):
         wanted_anchor, wanted = self._of(self._read(pattern))._split()
         if not self._is_anchor(anchor, wanted_anchor) and (wanted_anchor or wanted[:1] != ("**",)):
             return False
-        met, matches = {0}, _fnmatch()
+        met = {0}
         for one in wanted:
             if one == "**":
                 met = set(range(min(met, default=len(names) + 1), len(names) + 1))
             else:
-                met = {at + 1 for at in met if at < len(names) and matches(names[at], one)}
+                met = {at + 1 for at in met if at < len(names) and fnmatchcase(names[at], one)}
         return len(names) in met
 
     def check_portable(self) -> None:
@@ -429,13 +430,6 @@ if not TYPE_CHECKING and _module:
         if _name not in ("__doc__", "__module__", "__slots__"):
             setattr(_module.TypedPath, _name, _it)
     TypedPath, UnixPath, WindowsPath = _module.TypedPath, _module.UnixPath, _module.WindowsPath
-
-
-def _fnmatch() -> Callable[[str, str], bool]:
-    """What matches a name, which takes long to be imported."""
-    from fnmatch import fnmatchcase
-
-    return fnmatchcase
 
 
 def _again(cls: type[P], made: bytes) -> P:

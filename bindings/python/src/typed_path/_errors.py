@@ -3,7 +3,7 @@
 from __future__ import annotations
 
 import sys
-from typing import TYPE_CHECKING, Dict, NamedTuple, Optional, Type
+from typing import TYPE_CHECKING, NamedTuple, Optional
 
 if TYPE_CHECKING:
     from . import TypedPath
@@ -162,7 +162,7 @@ class NotUtf8(NotPortable):
 
 
 DONE, INVALID_FILENAME, OUT_OF_MEMORY, NONE, AMBIGUOUS, NOT_TEXT = 0, 1, 5, 8, 9, 17
-REFUSALS: Dict[int, Type[CheckedPathError]] = {
+REFUSALS: dict[int, type[CheckedPathError]] = {
     INVALID_FILENAME: InvalidFilename, 2: PathTraversalAttack, 3: UnexpectedPrefix, 4: UnexpectedRoot, 12: HasPrefix,
     13: ForbiddenByte, 14: MayBeDevice, 15: BadEnding, 16: NameTooLong, NOT_TEXT: NotUtf8,
 }

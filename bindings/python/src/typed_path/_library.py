@@ -9,7 +9,7 @@ import operator
 import os
 import pathlib
 from ctypes import POINTER, byref, c_bool, c_char, c_char_p, c_int32, c_size_t, c_uint32, c_uint64
-from typing import TYPE_CHECKING, Any, Callable, ClassVar, Iterable, List, Optional, Tuple, TypeVar, Union
+from typing import TYPE_CHECKING, Any, Callable, ClassVar, Iterable, Optional, TypeVar, Union
 
 from . import _errors
 from ._errors import DONE, ENCODINGS, ERRORS, INVALID_FILENAME, NONE, NOT_TEXT, UNIX, VERSION, WINDOWS
@@ -663,7 +663,7 @@ class Path:
 
     def _batch(
         self, names: Iterable[Union[str, bytes]], number: int, as_paths: bool
-    ) -> Tuple[List[Any], dict[int, int]]:
+    ) -> tuple[list[Any], dict[int, int]]:
         """What a call answers of each name, by its number: `join_checked`, `join_portable`, `resolve_checked`. The
         targets are paths, or as the names are, and None where a name was refused; and the statuses of these."""
         answers, refused, are_bytes = self._joined(names, number)
@@ -673,7 +673,7 @@ class Path:
 
     def _batch_into(
         self, names: Iterable[Union[str, bytes]], number: int, buffer: Any, end: bytes
-    ) -> Tuple[int, dict[int, int]]:
+    ) -> tuple[int, dict[int, int]]:
         """The same behind each other in a buffer, each with an end: how many bytes were written, and the statuses."""
         listed = list(names)
         answers, refused, _ = self._joined(listed, number)
@@ -690,7 +690,7 @@ class Path:
 
     def _joined(
         self, names: Iterable[Union[str, bytes]], number: int
-    ) -> Tuple[List[Optional[bytes]], dict[int, int], bool]:
+    ) -> tuple[list[Optional[bytes]], dict[int, int], bool]:
         """The answers of many names, the statuses of those that are refused, and whether they are bytes."""
         listed, texts, refused = list(names), [], {}
         are_bytes = bool(listed) and isinstance(listed[0], bytes)
@@ -708,7 +708,7 @@ class Path:
                 refused.setdefault(place, status)
         return [None if place in refused else it for place, (_, it) in enumerate(joined)], refused, are_bytes
 
-    def _joined_one_by_one(self, texts: list[bytes]) -> List[Tuple[int, bytes]]:
+    def _joined_one_by_one(self, texts: list[bytes]) -> list[tuple[int, bytes]]:
         found = []
         for text in texts:
             try:
@@ -717,7 +717,7 @@ class Path:
                 found.append((refusal._judged.status if refusal._judged else NONE, b""))
         return found
 
-    def _joined_at_once(self, texts: list[bytes], number: int) -> List[Tuple[int, bytes]]:
+    def _joined_at_once(self, texts: list[bytes], number: int) -> list[tuple[int, bytes]]:
         count, all_names = len(texts), b"".join(texts)
         size = len(all_names) + count * (len(self._bytes) + 3)
         ends = (c_size_t * count)(*itertools.accumulate(map(len, texts)))
