@@ -246,6 +246,18 @@ class Paths(unittest.TestCase):
         self.assertEqual(list(map(str, WindowsPath("C:a\\b").parents)), ["C:a", "C:", ""])
 
 
+class Records(unittest.TestCase):
+    def test_they_are_named_tuples(self):
+        batch = typed_path.Batch(["a"], refusals={})
+        self.assertEqual((batch.targets, batch._asdict()), (["a"], {"targets": ["a"], "refusals": {}}))
+        self.assertEqual((batch, batch._replace(targets=[])), ((["a"], {}), ([], {})))
+        again = pickle.loads(pickle.dumps(copy.copy(batch)))
+        self.assertEqual((again, type(again), repr(again)), (batch, type(batch), "Batch(targets=['a'], refusals={})"))
+        for words, named in (((), {}), ((1,), {"targets": 2}), ((1, 2, 3), {}), ((1, 2), {"other": 3})):
+            self.assertRaises(TypeError, typed_path.Batch, *words, **named)
+        self.assertRaises(AttributeError, setattr, batch, "targets", [])
+
+
 class Tagged(UnixPath):
     """It has an attribute, and a slot."""
 

@@ -28,9 +28,6 @@ True
 from __future__ import annotations
 
 import os
-from fnmatch import fnmatchcase
-from types import MemberDescriptorType
-from typing import TYPE_CHECKING, Any, Iterable, NamedTuple, TypeVar, Union
 
 from . import _errors
 from ._errors import (
@@ -66,6 +63,16 @@ __all__ = [
 ]
 __version__ = "0.2.0"
 
+TYPE_CHECKING = False  # which type checkers take for true
+if TYPE_CHECKING:
+    from typing import Any, Callable, Iterable, NamedTuple, TypeVar, Union
+
+    Name = Union[str, bytes]
+    Text = Union[str, bytes, "os.PathLike[str]", "os.PathLike[bytes]"]
+    P = TypeVar("P", bound="TypedPath")
+else:
+    from ._records import Record as NamedTuple
+
 # What the types are taken from: `native`, the module of C, or `ctypes`. TYPED_PATH_BACKEND names one.
 backend = os.environ.get("TYPED_PATH_BACKEND", "native")
 _module: Any = None
@@ -82,10 +89,6 @@ else:
     if _module.VERSION != _errors.VERSION:
         raise ImportError(f"_native has version {_module.VERSION}, and this package needs {_errors.VERSION}")
     _Path, _derive = object, _module.derive
-
-Name = Union[str, bytes]
-Text = Union[str, bytes, "os.PathLike[str]", "os.PathLike[bytes]"]
-P = TypeVar("P", bound="TypedPath")
 
 for _name in __all__:
     if isinstance(globals().get(_name), type) and issubclass(globals()[_name], TypedPathError):
@@ -189,11 +192,11 @@ class TypedPath(_Path):
         if wanted_anchor:
             return (
                 len(names) == len(wanted) and self._is_anchor(anchor, wanted_anchor)
-                and all(map(fnmatchcase, names, wanted))
+                and all(map(_matcher(), names, wanted))
             )
         if not wanted:
             raise TypedPathError(f"{pattern!r} is an empty pattern", pattern)
-        return len(names) >= len(wanted) and all(map(fnmatchcase, names[::-1], wanted[::-1]))
+        return len(names) >= len(wanted) and all(map(_matcher(), names[::-1], wanted[::-1]))
 
     def full_match(self, pattern: Text) -> bool:
         """Whether the whole path matches a pattern, in which `**` stands for any number of parts. The anchor matches an
@@ -208,12 +211,12 @@ class TypedPath(_Path):
         wanted_anchor, wanted = self._of(self._read(pattern))._split()
         if not self._is_anchor(anchor, wanted_anchor) and (wanted_anchor or wanted[:1] != ("**",)):
             return False
-        met = {0}
+        met, matches = {0}, _matcher()
         for one in wanted:
             if one == "**":
                 met = set(range(min(met, default=len(names) + 1), len(names) + 1))
             else:
-                met = {at + 1 for at in met if at < len(names) and fnmatchcase(names[at], one)}
+                met = {at + 1 for at in met if at < len(names) and matches(names[at], one)}
         return len(names) in met
 
     def check_portable(self) -> None:
@@ -432,6 +435,19 @@ if not TYPE_CHECKING and _module:
     TypedPath, UnixPath, WindowsPath = _module.TypedPath, _module.UnixPath, _module.WindowsPath
 
 
+def _matcher() -> Callable[[str, str], bool]:
+    """What matches a name with a pattern. It is imported when it is asked for, since that takes long."""
+    global _matches
+    if not _matches:
+        from fnmatch import fnmatchcase
+
+        _matches = fnmatchcase
+    return _matches
+
+
+_matches: Union[Callable[[str, str], bool], None] = None
+
+
 def _again(cls: type[P], made: bytes) -> P:
     """A path that was pickled, or copied."""
     return cls._of(made)
@@ -439,6 +455,8 @@ def _again(cls: type[P], made: bytes) -> P:
 
 def _slots(cls: type) -> list[str]:
     """The slots that a subclass has besides."""
+    from types import MemberDescriptorType
+
     return [
         name for one in cls.__mro__ for name, it in vars(one).items()
         if isinstance(it, MemberDescriptorType) and name != "_bytes"

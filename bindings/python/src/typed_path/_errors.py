@@ -3,10 +3,14 @@
 from __future__ import annotations
 
 import sys
-from typing import TYPE_CHECKING, NamedTuple, Optional
 
+TYPE_CHECKING = False  # which type checkers take for true
 if TYPE_CHECKING:
+    from typing import NamedTuple, Optional
+
     from . import TypedPath
+else:
+    from ._records import Record as NamedTuple
 
 UNIX, WINDOWS = 0, 1
 VERSION = 200

@@ -2,16 +2,15 @@
 
 from __future__ import annotations
 
-from typing import TYPE_CHECKING, TypeVar, Union
-
+TYPE_CHECKING = False  # which type checkers take for true
 if TYPE_CHECKING:
     import os
+    from typing import TypeVar, Union
 
     from . import UnixPath, WindowsPath
 
     Text = Union[str, bytes, "os.PathLike[str]", "os.PathLike[bytes]"]
-
-S = TypeVar("S", str, bytes)
+    S = TypeVar("S", str, bytes)
 
 
 class Texts:
