@@ -838,7 +838,7 @@ static PyObject *path_str(PyObject *self)
 static PyObject *path___fspath__(PyObject *self, PyObject *unused)
 {
     READ_SELF(text);
-    return is_utf8[path->dialect] ? path_str(self) : PyUnicode_DecodeFSDefaultAndSize(text.at, (Py_ssize_t)text.len);
+    return is_utf8[TYPED_PATH_UNIX] ? path_str(self) : PyUnicode_DecodeFSDefaultAndSize(text.at, (Py_ssize_t)text.len);
 }
 
 static PyObject *path___bytes__(PyObject *self, PyObject *unused)

@@ -123,8 +123,9 @@ class Buffers(unittest.TestCase):
         with tempfile.TemporaryFile() as file:
             file.truncate(100)
             with mmap.mmap(file.fileno(), 100) as buffer:
-                self.assertEqual(base.join_checked_into(iter(names), buffer)[0], 24)
-                self.assertEqual(buffer[:25], "/srv/a/b\n/srv/日\n/srv/con\n".encode()[:24] + b"\n"[:1])
+                written = base.join_checked_into(iter(names), buffer)
+                self.assertEqual(written, (27, {1: typed_path.PathTraversalAttack}))
+                self.assertEqual(buffer[:28], "/srv/a/b\n/srv/日\n/srv/con\n\0".encode())
 
     def test_what_has_no_room(self):
         buffer = bytearray(13)

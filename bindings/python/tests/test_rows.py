@@ -16,7 +16,7 @@ import timeit
 import unittest
 
 import typed_path
-from typed_path import UnixPath, WindowsPath, _library, derive, extract_names
+from typed_path import UnixPath, WindowsPath, _errors, _library, derive, extract_names
 
 ROWS = pathlib.Path(__file__).parents[2] / "rows.tsv"
 CLASSES = {"unix": UnixPath, "windows": WindowsPath}
@@ -195,7 +195,7 @@ class Paths(unittest.TestCase):
         """Python hashes bytes by SipHash 1-3 too, under a key that its seed makes: of 0 the zeros."""
         unix = ["", "/", "a", "a//b/.", "./a/..", "/usr/share/doc", "日/本", "x" * 244, "x" * 245, "x" * 1000]
         windows = [*unix, "C:", "c:\\a", "\\\\?\\C:\\a", "\\\\s\\h\\a", "\\\\?\\UNC\\s\\h", "\\\\.\\COM1", "\\\\?\\a"]
-        paths = [(_library.UNIX, it) for it in unix] + [(_library.WINDOWS, it) for it in windows]
+        paths = [(_errors.UNIX, it) for it in unix] + [(_errors.WINDOWS, it) for it in windows]
         words = [fed(CLASSES[("unix", "windows")[dialect]](path)).hex() for dialect, path in paths]
         program = "import sys; print(*(hash(bytes.fromhex(it)) % 2**64 for it in sys.argv[1:]))"
         for seed in (0, 1, 20261129):

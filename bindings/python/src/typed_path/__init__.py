@@ -86,8 +86,7 @@ if backend == "native":
 if TYPE_CHECKING or not _module:
     from ._library import Path as _Path, derive as _derive
 else:
-    if _module.VERSION != _errors.VERSION:
-        raise ImportError(f"_native has version {_module.VERSION}, and this package needs {_errors.VERSION}")
+    _errors.look_at_version(_module.VERSION)
     _Path, _derive = object, _module.derive
 
 for _name in __all__:

@@ -19,6 +19,12 @@ VERSION = 200
 ENCODING, ERRORS = sys.getfilesystemencoding(), sys.getfilesystemencodeerrors()
 
 
+def look_at_version(version: int) -> None:
+    """Raises ImportError for a library that is older than this package, or whose first two parts are others."""
+    if version < VERSION or version // 100 != VERSION // 100:
+        raise ImportError(f"the library has the version {version}, and this package needs {VERSION}")
+
+
 def keeps_backslashes(encoding: str) -> bool:
     r"""Whether a `\` behind any other byte is one in text too. In Big5 and its like it may be half of a letter."""
     return all(bytes((byte, 92)).decode(encoding, ERRORS).endswith("\\") for byte in range(128, 256))

@@ -12,7 +12,7 @@ from ctypes import POINTER, byref, c_bool, c_char, c_char_p, c_int32, c_size_t, 
 from typing import TYPE_CHECKING, Any, Callable, ClassVar, Iterable, Optional, TypeVar, Union
 
 from . import _errors
-from ._errors import DONE, ENCODINGS, ERRORS, INVALID_FILENAME, NONE, NOT_TEXT, UNIX, VERSION, WINDOWS
+from ._errors import DONE, ENCODINGS, ERRORS, INVALID_FILENAME, NONE, NOT_TEXT
 
 Text = Union[str, bytes, "os.PathLike[str]", "os.PathLike[bytes]"]
 P = TypeVar("P", bound="Path")
@@ -34,8 +34,7 @@ def _loaded() -> ctypes.CDLL:
     named = os.environ.get("TYPED_PATH_LIBRARY")
     beside = pathlib.Path(__file__).with_name(NAME)
     library = ctypes.CDLL(named or (str(beside) if beside.exists() else NAME))
-    if library.typed_path_version() != VERSION:
-        raise ImportError(f"{NAME} has version {library.typed_path_version()}, and this package needs {VERSION}")
+    _errors.look_at_version(library.typed_path_version())
     library.typed_path_runs_here.restype = c_bool
     if not library.typed_path_runs_here():
         raise ImportError(f"{NAME} needs a processor of x86-64-v2, which has SSE4.2 and POPCNT")
