@@ -18,18 +18,19 @@ class Served(unittest.TestCase):
         with tempfile.TemporaryDirectory() as room:
             folder = pathlib.Path(room, "files")
             folder.mkdir()
+            (folder / "b").mkdir()
             (folder / "a.txt").write_text("one")
             (folder / "CON").write_text("a device elsewhere")
             pathlib.Path(room, "secret").write_text("secret")
             client = serve_flask.app_of(str(folder)).test_client()
-            for name, wanted in (
-                ("a.txt", b"one"), ("./a.txt", b"one"), ("b/../a.txt", b"one"), ("none", None), ("../secret", None),
-                ("%2e%2e/secret", None), ("b/..%2f../secret", None), ("%2fetc/passwd", None), ("CON", None),
-                ("..%5csecret", None), ("a.txt%00", None),
+            for name in ("a.txt", "./a.txt", "b/../a.txt", "b/..%2fa.txt"):
+                with client.get(f"/files/{name}") as answer:
+                    self.assertEqual((answer.status_code, answer.data), (200, b"one"), name)
+            for name in (
+                "none", "b", "../secret", "%2e%2e/secret", "b/..%2f../secret", "CON", "..%5csecret", "a.txt%00", "a.txt/",
             ):
                 with client.get(f"/files/{name}") as answer:
-                    got = answer.data if answer.status_code == 200 else answer.status_code
-                self.assertIn(got, (wanted, 404), name)
+                    self.assertEqual(answer.status_code, 404, name)
             for name in ("../secret", "/etc/passwd", "b/../../secret", "..", "a/../.."):
                 self.assertIsNone(serve_flask.target(str(folder), name))
                 self.assertIsNone(safe_join(str(folder), name))

@@ -458,7 +458,7 @@ def _slots(cls: type) -> list[str]:
 
     return [
         name for one in cls.__mro__ for name, it in vars(one).items()
-        if isinstance(it, MemberDescriptorType) and name != "_bytes"
+        if isinstance(it, MemberDescriptorType) and name not in ("_bytes", "_parts")
     ]
 
 

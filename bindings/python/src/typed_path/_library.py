@@ -146,10 +146,11 @@ def hashed(dialect: int, path: bytes, key: tuple[int, ...] = KEY) -> int:
 class Path:
     """What `UnixPath` and `WindowsPath` share."""
 
-    __slots__ = ("_bytes",)
+    __slots__ = ("_bytes", "_parts")
     _dialect: ClassVar[int]
     _separator: ClassVar[str]
     _bytes: bytes
+    _parts: tuple[str, ...]  # once they were asked for
 
     def __init__(self, *segments: Text) -> None:
         """The path of the first text, with the others pushed onto it one by one. Called again it changes nothing."""
@@ -173,7 +174,7 @@ class Path:
             super().__delattr__(name)
 
     def _refuse_change(self, name: str) -> None:
-        if name in ("_bytes", "__class__"):
+        if name in ("_bytes", "_parts", "__class__"):
             raise AttributeError(f"{self!r} never changes")
 
     def _read(self, text: Text) -> bytes:
@@ -410,15 +411,17 @@ class Path:
         >>> UnixPath("/a//b/.").parts, WindowsPath("C:/a/b").parts
         (('/', 'a', 'b'), ('C:\\', 'a', 'b'))
         """
-        found: list[str] = []
-        for kind, start, length in self._pieces():
-            if kind != ROOT:
-                found.append(self._text(self._bytes[start:start + length]))
-            elif found:
-                found[0] += self._separator
-            else:
-                found.append(self._separator)
-        return tuple(found)
+        if not hasattr(self, "_parts"):
+            found: list[str] = []
+            for kind, start, length in self._pieces():
+                if kind != ROOT:
+                    found.append(self._text(self._bytes[start:start + length]))
+                elif found:
+                    found[0] += self._separator
+                else:
+                    found.append(self._separator)
+            _put_parts(self, tuple(found))
+        return self._parts
 
     def as_posix(self) -> str:
         r"""The text with each separator written `/`.
@@ -732,5 +735,6 @@ class Path:
         return [(status, answers[start:end]) for status, start, end in zip(statuses, [0, *ends_of], ends_of)]
 
 
-# The one thing that sets the bytes of a path, which is new.
+# What alone sets the bytes of a path, which is new, and its parts.
 _put: Callable[[Path, bytes], None] = Path.__dict__["_bytes"].__set__
+_put_parts: Callable[[Path, tuple[str, ...]], None] = Path.__dict__["_parts"].__set__
