@@ -62,8 +62,10 @@ typedef struct {
     size_t len;
     PyObject *text, *parts;
     Py_hash_t hash; /* 0 where it was not asked for */
-    uint32_t dialect;
+    size_t prefix; /* its length, and whether a root stands behind it, once they were asked for */
+    bool has_root, has_anchor;
     bool hands_on; /* whether its class has a with_segments of its own */
+    uint32_t dialect;
 } Path;
 
 /* Bytes that are read, and what holds them. */
@@ -425,14 +427,18 @@ static size_t anchor_of(uint32_t dialect, const Text *path, bool *has_root)
 /* The bytes of a prefix with the root behind it, as text. */
 static PyObject *anchored(uint32_t dialect, const char *at, size_t len, bool has_root)
 {
-    PyObject *drive = decoded(dialect, at, len);
-    PyObject *root = drive && has_root ? PyUnicode_FromStringAndSize(separators[dialect], 1) : NULL;
-    if (!drive || !has_root)
-        return drive;
-    PyObject *both = root ? PyUnicode_Concat(drive, root) : NULL;
-    Py_DECREF(drive);
-    Py_XDECREF(root);
-    return both;
+    if (!len)
+        return PyUnicode_FromStringAndSize(separators[dialect], has_root);
+    if (!has_root)
+        return decoded(dialect, at, len);
+    char room[ROOM], *both = room_of(room, len + 1);
+    if (!both)
+        return NULL;
+    memcpy(both, at, len);
+    both[len] = *separators[dialect];
+    PyObject *text = decoded(dialect, both, len + 1);
+    freed(both, room);
+    return text;
 }
 
 /* Puts an item behind a list, and takes its reference. */
@@ -780,11 +786,13 @@ static PyObject *suffixes(const Path *path, const Text *text)
 PROPERTY(suffixes, suffixes(path, &text))
 
 /* The drive, the root, or both. */
-static PyObject *anchor(const Path *path, const Text *text, bool with_drive, bool with_root)
+static PyObject *anchor(Path *path, const Text *text, bool with_drive, bool with_root)
 {
-    bool has_root;
-    size_t prefix = anchor_of(path->dialect, text, &has_root);
-    return anchored(path->dialect, text->at, with_drive ? prefix : 0, with_root && has_root);
+    if (!path->has_anchor) {
+        path->prefix = anchor_of(path->dialect, text, &path->has_root);
+        path->has_anchor = true;
+    }
+    return anchored(path->dialect, text->at, with_drive ? path->prefix : 0, with_root && path->has_root);
 }
 PROPERTY(drive, anchor(path, &text, true, false))
 PROPERTY(root, anchor(path, &text, false, true))

@@ -134,14 +134,17 @@ class TypedPath(_Path):
 
     def __repr__(self) -> str:
         """What makes the path again when it is evaluated."""
-        shown: Name = self._bytes
-        try:
-            text = self._bytes.decode(_errors.ENCODINGS[self._dialect])
-            if self._read(text) == self._bytes:
-                shown = text
-        except UnicodeError:
-            pass
+        text = str(self)
+        shown: Name = text if self._bytes.isascii() or self._is_text(text) else self._bytes
         return f"{type(self).__name__}({shown!r})"
+
+    def _is_text(self, text: str) -> bool:
+        """Whether the bytes are read as this text, and written by it, without what stands for other bytes."""
+        try:
+            text.encode("utf-8")
+        except UnicodeError:
+            return False
+        return self._read(text) == self._bytes
 
     def __reduce__(self) -> tuple[object, ...]:
         return _again, (type(self), self._bytes), self.__getstate__()
@@ -186,16 +189,13 @@ class TypedPath(_Path):
         >>> UnixPath("/a/b.py").match("*.py"), UnixPath("/a/b.py").match("/*.py"), UnixPath("a.PY").match("*.py")
         (True, False, False)
         """
-        anchor, names = self._split()
         wanted_anchor, wanted = self._of(self._read(pattern))._split()
-        if wanted_anchor:
-            return (
-                len(names) == len(wanted) and self._is_anchor(anchor, wanted_anchor)
-                and all(map(_matcher(), names, wanted))
-            )
-        if not wanted:
+        if not wanted_anchor and not wanted:
             raise TypedPathError(f"{pattern!r} is an empty pattern", pattern)
-        return len(names) >= len(wanted) and all(map(_matcher(), names[::-1], wanted[::-1]))
+        anchor, names = self._split()
+        if wanted_anchor and (len(names) != len(wanted) or not self._is_anchor(anchor, wanted_anchor)):
+            return False
+        return len(names) >= len(wanted) and all(map(_matcher(), names[len(names) - len(wanted):], wanted))
 
     def full_match(self, pattern: Text) -> bool:
         """Whether the whole path matches a pattern, in which `**` stands for any number of parts. The anchor matches an
