@@ -717,6 +717,19 @@ static PyObject *path__pieces(PyObject *self, PyObject *unused)
     return NULL;
 }
 
+/* Whether bytes are read as one name, and are that. */
+static PyObject *path__is_name(PyObject *self, PyObject *from)
+{
+    Text text;
+    if (!read_bytes(from, &text))
+        return NULL;
+    typed_path_reading reading = reading_of(&text);
+    typed_path_component piece;
+    return PyBool_FromLong(
+        is_next(((Path *)self)->dialect, &text, &reading, &piece) && piece.kind == TYPED_PATH_KIND_NAME &&
+        piece.start == 0 && piece.length == text.len);
+}
+
 /* The text with each separator written `/`. */
 static PyObject *path_as_posix(PyObject *self, PyObject *unused)
 {
@@ -1445,6 +1458,7 @@ static PyMethodDef path_methods[] = {
     WITH_ONE(_with_extension, NULL),
     WITH_ONE(_absolutize, NULL),
     WITH_ONE(_read, NULL),
+    WITH_ONE(_is_name, NULL),
     WITH_ONE(_text, NULL),
     WITH_ONE(_like, NULL),
     WITH_WORDS(join, DOC_join),

@@ -83,6 +83,7 @@ class Alike(unittest.TestCase):
                 self.assertEqual(*(answered(lambda it=it: it.relative_to(another, walk_up=True)) for it in pair))
                 for checks in (False, True):
                     self.assertEqual(*(answered(it._convert, 1 - it._dialect, checks) for it in pair), text)
+                self.assertEqual(*(it._is_name(os.fsencode(another)) for it in pair), another)
                 others = kind(another), other(another)
                 compared = [
                     (one == two, one != two, one < two, one <= two, one > two, one >= two, told(one / two),
@@ -187,7 +188,7 @@ def calls_of(path, other):
         lambda: path._batch(["a", "..", "b"], 0, False), lambda: path._batch([b"a", b"nul"], 1, True),
         lambda: path._batch(["a", b"b"], 2, False), lambda: path._batch(["\ud800"], 0, False),
         lambda: path._batch_into(["a", "b"], 0, bytearray(3000), b"\n"), lambda: path._batch_into(["a"], 0, bytearray(0), b""),
-        lambda: unix.join_checked("a", other), lambda: path._check(), lambda: path._check_portable(), lambda: path._text(b"a"),
+        lambda: unix.join_checked("a", other), lambda: path._check(), lambda: path._check_portable(), lambda: path._text(b"a"), lambda: path._is_name(b"a"),
         lambda: unix.is_within(b"a", other), lambda: windows.clean("a"), lambda: unix.join_checked("a", ".."),
         lambda: unix.join("\ud800", "a"), lambda: unix.join("a", 1), lambda: setattr(path, "a", 1),
     ]

@@ -295,10 +295,6 @@ class TypedPath(_Path):
             raise NotAName(f"{self._text(raw)!r} is not a name", name)
         return self._with_file_name(raw)
 
-    def _is_name(self, raw: bytes) -> bool:
-        """Whether bytes are read as one name, and are that."""
-        return self._of(raw)._pieces() == [(NORMAL, 0, len(raw))]
-
     def with_name(self: P, name: Text) -> P:
         r"""`with_file_name` of a path that has a name; it raises `NoName`, a `ValueError`, for one without. Raises
         `BaseLosesPrefix` where Windows reads the name behind the parent as a part of a prefix.
@@ -407,9 +403,6 @@ class TypedPath(_Path):
     def _converted(self, cls: type[P], checks: bool) -> P:
         made = self._convert(cls._dialect, checks)
         return self._like(made) if isinstance(self, cls) else cls._of(made)
-
-
-NORMAL = _errors.KINDS.index("normal")
 
 
 class UnixPath(TypedPath):

@@ -17,8 +17,7 @@ from ._errors import DONE, ENCODINGS, ERRORS, INVALID_FILENAME, NONE, NOT_TEXT
 Text = Union[str, bytes, "os.PathLike[str]", "os.PathLike[bytes]"]
 P = TypeVar("P", bound="Path")
 NAME = "libtyped_path.so.0.2"
-ROOT, PREFIX = 0, 4  # the kind of a root, and the least one of a prefix
-TOO_SMALL = 6
+ROOT, NAME_KIND, PREFIX = 0, 3, 4  # the kinds of a root and of a name, and the least one of a prefix
 
 
 class Span(ctypes.Structure):
@@ -403,6 +402,10 @@ class Path:
         if status != DONE:
             raise _errors.failed(status, self, self._dialect, self._bytes, None, None)
         return [(it.kind, it.start, it.length) for it in pieces[:count.value]]
+
+    def _is_name(self, raw: bytes) -> bool:
+        """Whether bytes are read as one name, and are that."""
+        return self._of(raw)._pieces() == [(NAME_KIND, 0, len(raw))]
 
     @property
     def parts(self) -> tuple[str, ...]:
