@@ -23,7 +23,7 @@ import tempfile
 import zipfile
 
 HERE = pathlib.Path(__file__).resolve().parent
-NAME, VERSION, BUILD = "typed_path", "0.2.0", "1_x86_64_v2"
+NAME, VERSION, BUILD = "typed_path", "0.2.1", "1_x86_64_v2"
 TAGS = {"native": "cp38-abi3-linux_x86_64", "ctypes": "py3-none-linux_x86_64"}
 SHARED = "libtyped_path.so.0.2"
 MODULE = "_native.abi3.so"

@@ -531,9 +531,25 @@ CHECKED(resolve_checked, TYPED_PATH_STATUS_INVALID_FILENAME)
 OF_OTHER(_with_file_name, put_other(typed_path_with_file_name, path->dialect, &text, &other, LIKE_SELF, from))
 OF_OTHER(_with_extension, put_other(typed_path_with_extension, path->dialect, &text, &other, LIKE_SELF, from))
 OF_OTHER(_absolutize, put_other(typed_path_absolutize, path->dialect, &text, &other, LIKE_SELF, self))
+
+/* From a directory of Windows. */
+static uint32_t absolutize_in_windows(
+    uint32_t dialect, const char *path, size_t path_len, const char *directory, size_t directory_len, char *out,
+    size_t out_size, size_t *len)
+{
+    return typed_path_absolutize_from(
+        dialect, path, path_len, TYPED_PATH_WINDOWS, directory, directory_len, out, out_size, len);
+}
+OF_OTHER(
+    _absolutize_in_windows, put_other(absolutize_in_windows, path->dialect, &text, &other, LIKE_SELF, self))
 OF_OTHER(is_within, asked_other(typed_path_is_within, path->dialect, &text, &other))
 OF_OTHER(starts_with, asked_other(typed_path_starts_with, path->dialect, &text, &other))
 OF_OTHER(ends_with, asked_other(typed_path_ends_with, path->dialect, &text, &other))
+OF_OTHER(eq_ignore_ascii_case, asked_other(typed_path_equal_ignore_ascii_case, path->dialect, &text, &other))
+OF_OTHER(
+    starts_with_ignore_ascii_case,
+    asked_other(typed_path_starts_with_ignore_ascii_case, path->dialect, &text, &other))
+OF_PATH(to_ascii_lowercase, put(typed_path_to_ascii_lowercase, path->dialect, &text, LIKE_SELF))
 
 /* The path that a span is, of the class of this one. */
 static PyObject *lent(Path *path, typed_path_span span)
@@ -1432,6 +1448,7 @@ OF_TEXTS(asked_other, is_within, 0)
 static PyMethodDef path_methods[] = {
     ALONE(normalize, DOC_normalize),
     ALONE(clean, DOC_clean),
+    ALONE(to_ascii_lowercase, DOC_to_ascii_lowercase),
     ALONE(simplified, DOC_simplified),
     ALONE(is_absolute, DOC_is_absolute),
     ALONE(has_root, DOC_has_root),
@@ -1451,12 +1468,15 @@ static PyMethodDef path_methods[] = {
     WITH_ONE(is_within, DOC_is_within),
     WITH_ONE(starts_with, DOC_starts_with),
     WITH_ONE(ends_with, DOC_ends_with),
+    WITH_ONE(eq_ignore_ascii_case, DOC_eq_ignore_ascii_case),
+    WITH_ONE(starts_with_ignore_ascii_case, DOC_starts_with_ignore_ascii_case),
     WITH_ONE(is_relative_to, DOC_is_relative_to),
     WITH_ONE(common_ancestor, DOC_common_ancestor),
     WITH_ONE(strip_prefix, DOC_strip_prefix),
     WITH_ONE(_with_file_name, NULL),
     WITH_ONE(_with_extension, NULL),
     WITH_ONE(_absolutize, NULL),
+    WITH_ONE(_absolutize_in_windows, NULL),
     WITH_ONE(_read, NULL),
     WITH_ONE(_is_name, NULL),
     WITH_ONE(_text, NULL),

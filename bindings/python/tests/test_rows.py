@@ -30,7 +30,8 @@ REFUSALS = {
 # What a call returns where there is no such part.
 NONE = {"file_name": "", "file_stem": "", "extension": None, "common_ancestor": b""}
 # What the package has no call for.
-CALLS_OF_C = {"is_valid_name", "key_words", "prefix_names", "push_place", "with_added_extension", "file_prefix"}
+CALLS_OF_C = {"is_valid_name", "key_words", "prefix_names", "push_place", "with_added_extension", "file_prefix",
+              "compare_ignore_ascii_case"}
 # What the library takes for another name or extension, and Python refuses.
 NO_NAMES = [
     ("with_file_name", b"a/b", b""), ("with_file_name", b"a/b", b"/x"), ("with_file_name", b"a/b", b".."),
@@ -46,7 +47,11 @@ def called(call, path, other):
     """What a call answers, by the name that it has in Python."""
     if call in ("convert", "convert_checked"):
         return bytes(getattr(path, f"to_{other.decode()}{call[len('convert'):]}")())
-    if call in ("normalize", "clean", "simplified", "parent"):
+    if call.startswith("absolutize_from_"):
+        return bytes(path.absolutize(CLASSES[call[len("absolutize_from_"):]](other)))
+    if call == "equal_ignore_ascii_case":
+        return str(path.eq_ignore_ascii_case(other)).lower().encode()
+    if call in ("normalize", "clean", "simplified", "parent", "to_ascii_lowercase"):
         return bytes(path.parent if call == "parent" else getattr(path, call)())
     if call in ("check", "check_portable"):
         type(path)("").join_checked(path) if call == "check" else path.check_portable()
@@ -63,7 +68,7 @@ def called(call, path, other):
         return str(path == type(path)(other)).lower().encode()
     if call in ("is_absolute", "has_root", "is_valid", "is_portable", "may_be_device", "keeps_prefix"):
         return str(getattr(path, call)()).lower().encode()
-    if call in ("starts_with", "ends_with", "is_within"):
+    if call in ("starts_with", "ends_with", "is_within", "starts_with_ignore_ascii_case"):
         return str(getattr(path, call)(other)).lower().encode()
     if call == "relative_to":
         return bytes(path.relative_to(other, walk_up=True))

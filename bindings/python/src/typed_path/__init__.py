@@ -61,7 +61,7 @@ __all__ = [
     "StripPrefixError", "TypedPath", "TypedPathError", "UnexpectedPrefix", "UnexpectedRoot", "UnixPath", "WindowsPath",
     "Written", "backend", "derive", "extract_names", "unix", "windows",
 ]
-__version__ = "0.2.0"
+__version__ = "0.2.1"
 
 TYPE_CHECKING = False  # which type checkers take for true
 if TYPE_CHECKING:
@@ -357,16 +357,20 @@ class TypedPath(_Path):
         self._look_for_name()
         return self.with_extension(raw[1:])
 
-    def absolutize(self: P, directory: Union[str, bytes, UnixPath, None] = None) -> P:
-        r"""The normal path, read from a directory of Unix where it is not absolute: the working directory, if
-        none is named. Raises `Ambiguous` where it is not absolute behind it either. That is asked before the path is
+    def absolutize(self: P, directory: Union[str, bytes, UnixPath, WindowsPath, None] = None) -> P:
+        r"""The normal path, read from a directory where it is not absolute: a path of either dialect, a text of Unix,
+        or the working directory, if none is named. Raises `Ambiguous` where it is not absolute behind it either. That is asked before the path is
         made normal, so on Windows what is returned may be on another drive, and not absolute.
 
         >>> UnixPath("a/../b").absolutize("/home/u")
         UnixPath('/home/u/b')
         >>> WindowsPath(r"C:\a\D:").absolutize("/home/u")
         WindowsPath('D:')
+        >>> WindowsPath(r"..\a").absolutize(WindowsPath(r"C:\work"))
+        WindowsPath('C:\\a')
         """
+        if isinstance(directory, WindowsPath):
+            return self._absolutize_in_windows(bytes(directory))
         if directory is not None:
             return self._absolutize(bytes(UnixPath(directory)))
         return self._absolutize(b"/" if self.is_absolute() else os.getcwdb())

@@ -13,7 +13,7 @@ else:
     from ._records import Record as NamedTuple
 
 UNIX, WINDOWS = 0, 1
-VERSION = 200
+VERSION = 201
 
 # What os.fsencode and os.fsdecode take.
 ENCODING, ERRORS = sys.getfilesystemencoding(), sys.getfilesystemencodeerrors()

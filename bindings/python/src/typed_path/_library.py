@@ -52,13 +52,19 @@ def _call(name: str, *kinds: object) -> Callable[..., int]:
     return call
 
 
+def _in_windows(call: Callable[..., int]) -> Callable[..., int]:
+    """A call between whose two texts the number of Windows stands."""
+    return lambda dialect, path, size, *words: call(dialect, path, size, 1, *words)
+
+
 _derive = _call("derive", *_TEXT)
 _puts = {
     **{name: _call(name, c_uint32, *_TEXT, *_TEXT, *_PUT)
        for name in ("join", "join_checked", "join_portable", "resolve_checked", "with_file_name", "with_extension",
                     "relative_to", "absolutize")},
-    **{name: _call(name, c_uint32, *_TEXT, *_PUT) for name in ("normalize", "clean")},
+    **{name: _call(name, c_uint32, *_TEXT, *_PUT) for name in ("normalize", "clean", "to_ascii_lowercase")},
     **{name: _call(name, c_uint32, *_TEXT, c_uint32, *_PUT) for name in ("convert", "convert_checked")},
+    "absolutize_in_windows": _in_windows(_call("absolutize_from", c_uint32, *_TEXT, c_uint32, *_TEXT, *_PUT)),
 }
 _parts = {
     **{name: _call(name, c_uint32, *_TEXT, POINTER(Span))
@@ -69,7 +75,8 @@ _questions = {
     **{name: _call(name, c_uint32, *_TEXT, POINTER(c_bool))
        for name in ("is_absolute", "has_root", "is_valid", "is_portable", "may_be_device", "keeps_prefix")},
     **{name: _call(name, c_uint32, *_TEXT, *_TEXT, POINTER(c_bool))
-       for name in ("starts_with", "ends_with", "is_within", "equal")},
+       for name in ("starts_with", "ends_with", "is_within", "equal", "starts_with_ignore_ascii_case",
+                    "equal_ignore_ascii_case")},
 }
 _judges = {name: _call(name, c_uint32, *_TEXT) for name in ("check", "check_portable")}
 _components = _call("components", c_uint32, *_TEXT, POINTER(Piece), c_size_t, POINTER(c_size_t))
@@ -491,6 +498,22 @@ class Path:
         """Whether it ends with the components of the other, as they are written."""
         return self._asked("ends_with", end)
 
+    def eq_ignore_ascii_case(self, other: Text, /) -> bool:
+        """Whether both have the same components in lower case, as `to_ascii_lowercase` writes them.
+
+        >>> UnixPath("a//B").eq_ignore_ascii_case("A/b")
+        True
+        """
+        return self._asked("equal_ignore_ascii_case", other)
+
+    def starts_with_ignore_ascii_case(self, base: Text, /) -> bool:
+        r"""Whether it begins with the components of the base, as they are written in lower case.
+
+        >>> WindowsPath(r"c:\A").starts_with_ignore_ascii_case("C:")
+        True
+        """
+        return self._asked("starts_with_ignore_ascii_case", base)
+
     def is_within(self, base: Text, /) -> bool:
         r"""Whether it lies at the base or below it, from whatever directory both are read. It judges names that no file
         has, so ask `is_valid` too.
@@ -617,6 +640,15 @@ class Path:
         """
         return self._put("clean")
 
+    def to_ascii_lowercase(self: P) -> P:
+        r"""The path with each ASCII letter in lower case, but on Windows for the `UNC` of `\\?\UNC\` before a server,
+        which is read so only in capitals.
+
+        >>> UnixPath("Src/A").to_ascii_lowercase()
+        UnixPath('src/a')
+        """
+        return self._put("to_ascii_lowercase")
+
     def relative_to(self: P, base: Text, /, *, walk_up: bool = False) -> P:
         """The names that lead from the base to this path; `.` where both lead alike. Raises `NoRelativePath`, a
         `ValueError`, where it does not lie at the base or below it, or no relative path leads there. With `walk_up`
@@ -661,6 +693,9 @@ class Path:
 
     def _absolutize(self: P, directory: bytes) -> P:
         return self._put("absolutize", directory, self)
+
+    def _absolutize_in_windows(self: P, directory: bytes) -> P:
+        return self._put("absolutize_in_windows", directory, self)
 
     def _convert(self, dialect: int, checks: bool) -> bytes:
         """The bytes of the path as they are written in another dialect."""
