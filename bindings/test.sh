@@ -107,7 +107,7 @@ declares() {
 }
 # What stands in several places: the header, the crate, the list of what a built program relies on, and the manual.
 agree() {
-    local header=$include/typed_path.h list=$here/c/abi.txt page
+    local header=$include/typed_path.h list=$here/c/abi.txt words=$here/../crates/typath/src/words.rt page
     if is_there python3; then
         part "header and crate agree" "$tests/exports.py" "$header" "$here/../crates/typed_path_c/src"
         part "the ABI is the one that is listed" "$tests/abi.py" check "$header" "$list"
@@ -125,10 +125,11 @@ agree() {
         fi
         part "the header of C++ has all calls" has_all_calls
         part "the manual says what header and program say" "$tests/manual.py" \
-            "$header" "$here/c/man/typed_path.3" "$here/../refusals/help" "$here/c/man/typath.1"
+            "$header" "$here/c/man/typed_path.3" "$here/../refusals/help" "$words" "$here/c/man/typath.1"
     else
         left_out "whether header, crate, list and manual agree" python3
     fi
+    part "the words of typath are completed" "$tests/completes.sh" "$here/c/typath.bash" "$words"
     for page in typed_path.3 typath.1; do
         if is_there_man; then
             part "$page is set by man" is_set "$here/c/man/$page"
@@ -357,6 +358,15 @@ if is_there valgrind; then
     part "boundary, in valgrind, batch" in_valgrind batch
 else
     left_out "the boundary in valgrind" valgrind
+fi
+
+# The program.
+if ! is_there python3; then
+    left_out "what typath.1 shows" python3
+elif [[ -x $dir/bin/typath ]]; then
+    part "what typath.1 shows is printed" "$tests/shown.py" "$here/c/man/typath.1" "$dir/bin"
+else
+    left_out "what typath.1 shows" "$dir/bin/typath"
 fi
 
 # The examples.

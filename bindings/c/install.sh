@@ -1,6 +1,6 @@
 #!/usr/bin/env bash
 # Installs below PREFIX what build.sh laid out: headers, archive and shared object, what pkg-config and cmake find them
-# by, the program, and with these the pages of the manual, the examples and the licences.
+# by, the program with its completion for bash, and with these the pages of the manual, the examples and the licences.
 #
 # [DESTDIR=FOLDER] bindings/c/install.sh [--libdir LIBDIR] [--from DIR] PREFIX
 #
@@ -73,8 +73,9 @@ done
 if [[ -f $from/bin/typath ]]; then
     put 755 "$from/bin/typath" "$prefix/bin/typath"
     put 644 "$here/man/typath.1" "$manual/man1/typath.1"
+    put 644 "$here/typath.bash" "$prefix/share/bash-completion/completions/typath"
 else
-    echo "install.sh: left out: typath and its page, since there is no $from/bin/typath" >&2
+    echo "install.sh: left out: typath, its page and its completion, since there is no $from/bin/typath" >&2
 fi
 
 for at in "${!sources[@]}"; do

@@ -110,6 +110,9 @@ what_is_put() {
 755 d lib/x86_64-linux-gnu/pkgconfig 
 644 f lib/x86_64-linux-gnu/pkgconfig/typed_path.pc 
 755 d share 
+755 d share/bash-completion 
+755 d share/bash-completion/completions 
+644 f share/bash-completion/completions/typath 
 755 d share/doc 
 755 d share/doc/typed_path 
 644 f share/doc/typed_path/LICENSE-APACHE 

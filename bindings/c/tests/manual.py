@@ -1,9 +1,10 @@
 #!/usr/bin/env python3
 """Compares the pages of the manual with what they speak of: typed_path(3) with the header, whose calls it has to
 declare in the same order and whose constants it has to name, and typath(1) with what `typath --help` prints, whose
-commands and reasons it has to have.
+commands and reasons it has to have, and with what the program says on standard error.
 
-manual.py HEADER TYPED_PATH.3 HELP TYPATH.1: prints a line for each difference.
+manual.py HEADER TYPED_PATH.3 HELP WORDS TYPATH.1: prints a line for each difference. WORDS is the file of the program
+that has what it says.
 """
 
 import pathlib
@@ -41,9 +42,18 @@ def wrong_program(text, page):
         yield f"typath(1) has {there}, and the help {wanted}"
 
 
+def wrong_messages(words, page):
+    reasons = re.findall(r'LineError::\w+ => "(.*)"', words)
+    usage = re.search(r'USAGE: &str =\s*"(.*)\\n"', words)[1]
+    wanted = [*(f"typath: {it}" for it in reasons), usage]
+    there = re.findall(r'^\.It "?(.*?)"?$', page[page.index(".Sh DIAGNOSTICS"):], re.MULTILINE)
+    if len(reasons) < 3 or there != wanted:
+        yield f"typath(1) has the messages {there}, and the program {wanted}"
+
+
 def main(*files):
-    header, library, text, program = (pathlib.Path(it).read_text() for it in files)
-    wrong = [*wrong_library(header, library), *wrong_program(text, program)]
+    header, library, text, words, program = (pathlib.Path(it).read_text() for it in files)
+    wrong = [*wrong_library(header, library), *wrong_program(text, program), *wrong_messages(words, program)]
     print(*wrong, sep="\n")
     return bool(wrong)
 
