@@ -27,9 +27,15 @@ README, TYPATH, CALLING = "README.md", "crates/typath/README.md", "docs/CALLING.
 
 # What is left out: a block, or a line of commands, by its page and how it begins.
 OLDER = "proves an older state, which takes an hour"
+RELEASED = "takes the files of a release, as release/try.sh does"
 LEFT_OUT = {
     (README, "  C:  "): "a picture",
     (README, "                  "): "a picture",
+    (README, "sudo apt install"): RELEASED,
+    (README, "pip install"): RELEASED,
+    (README, "tar -xzf"): RELEASED,
+    (README, "bindings/c/build.sh && "): "proves the calls for C, as bindings/test.sh does",
+    (README, "release/build.sh"): "takes what that lays out, as bindings/test.sh does",
     (README, "cp -a ../typed_path/crates/typed_path/out"): "takes a built checkout, and 6 GB",
     (README, "./gate.sh quick"): "takes minutes, and runs this",
     (README, "./gate.sh  "): "takes more than an hour, and runs this",
@@ -51,7 +57,7 @@ LEFT_OUT = {
 }
 
 # The folder in which commands are run, if that is not the copy of the checkout.
-FOLDERS = {(README, "git -C ../typed_path"): "yours", (TYPATH, ""): "tree"}
+FOLDERS = {(README, "git -C ../typed_path"): "yours", (README, "# where uploads go"): "tree", (TYPATH, ""): "tree"}
 
 # Lines that commands print, beside the replies in their comments, where `⇥` is a tab.
 PRINTED = {

@@ -55,7 +55,7 @@ package() {
     shift
     for part in "$@"; do
         mkdir -p "$tree/$(dirname "$part")"
-        mv "$stage"/$part "$tree/$(dirname "$part")/"
+        mv "$stage/$part" "$tree/$(dirname "$part")/"
     done
     documents=$tree/usr/share/doc/$name
     mkdir -p "$documents" "$tree/DEBIAN"
