@@ -1,6 +1,6 @@
 #!/usr/bin/env bash
-# Runs in the clean root of try.sh, where /try has the release, and the lines of the README: lines.1 installs, and lines.2
-# asks the program. It says what it leaves out, and ends in `N passed, M failed`.
+# Runs in the clean root of try.sh, where /try has the release, the folder app, and the lines of the README: lines.1
+# installs, and lines.2 asks the program. It says what it leaves out, and ends in `N passed, M failed`.
 set -uo pipefail
 cd /try || exit 2
 passed=0 failed=0 room=$(mktemp -d)
@@ -57,80 +57,26 @@ completes() {
         grep -x 'complete -F _typath typath'
 }
 
-# Programs that say where names go below /srv.
-cat > "$room/app.c" << 'END'
-#include <stdio.h>
-#include <string.h>
-#include <typed_path.h>
-
-int main(int count, char **words) {
-    char out[100];
-    size_t len;
-    for (int at = 1; at < count; at++) {
-        uint32_t status = typed_path_join_checked(TYPED_PATH_UNIX, "/srv", 4, words[at], strlen(words[at]), out, sizeof out, &len);
-        puts(status == TYPED_PATH_STATUS_DONE ? out : "refused");
-    }
-    return typed_path_version() != TYPED_PATH_VERSION || !typed_path_runs_here();
-}
-END
-cat > "$room/app.cpp" << 'END'
-#include <iostream>
-#include <typed_path.hpp>
-
-int main(int count, char **words) {
-    for (int at = 1; at < count; at++) {
-        auto target = typed_path::unix_path("/srv").join_checked(words[at]);
-        std::cout << (target ? *target : "refused") << '\n';
-    }
-}
-END
-cat > "$room/app.py" << 'END'
-import sys
-from typed_path import PathTraversalAttack, UnixPath
-
-for word in sys.argv[1:]:
-    try:
-        print(UnixPath("/srv").join_checked(word))
-    except PathTraversalAttack:
-        print("refused")
-END
-cat > "$room/app.rs" << 'END'
-use typed_path::Utf8UnixPath;
-
-fn main() {
-    for word in std::env::args().skip(1) {
-        match Utf8UnixPath::new("/srv").join_checked(word) {
-            Ok(target) => println!("{target}"),
-            Err(_) => println!("refused"),
-        }
-    }
-}
-END
-cat > "$room/CMakeLists.txt" << 'END'
-cmake_minimum_required(VERSION 3.10)
-project(app C)
-find_package(typed_path 0.2 REQUIRED)
-add_executable(app app.c)
-target_link_libraries(app typed_path::typed_path)
-END
+# Each program of the folder app says where names go below /srv.
 answers() {
     diff <("$@" a/b ../x) <(printf '%s\n' /srv/a/b refused)
 }
 in_c() {
-    eval "cc \"\$room/app.c\" $(pkg-config --cflags --libs typed_path) -o \"\$room/app\"" && answers "$room/app"
+    eval "cc /try/app/app.c $(pkg-config --cflags --libs typed_path) -o \"\$room/app\"" && answers "$room/app"
 }
 in_c_static() {
-    eval "cc -static \"\$room/app.c\" $(pkg-config --static --cflags --libs typed_path) -o \"\$room/app\"" && answers "$room/app"
+    eval "cc -static /try/app/app.c $(pkg-config --static --cflags --libs typed_path) -o \"\$room/app\"" && answers "$room/app"
 }
 in_cpp() {
-    eval "c++ -std=c++17 \"\$room/app.cpp\" $(pkg-config --cflags --libs typed_path) -o \"\$room/app\"" && answers "$room/app"
+    eval "c++ -std=c++17 /try/app/app.cpp $(pkg-config --cflags --libs typed_path) -o \"\$room/app\"" && answers "$room/app"
 }
 by_cmake() {
     rm -rf "$room/built"
-    cmake -S "$room" -B "$room/built" "$@" && cmake --build "$room/built" && answers "$room/built/app"
+    cmake -S /try/cmake -B "$room/built" -DSOURCE=/try/app/app.c "$@" && cmake --build "$room/built" && answers "$room/built/app" &&
+        answers "$room/built/app_static"
 }
 in_python() {
-    answers "$1" "$room/app.py"
+    answers "$1" /try/app/app.py
 }
 
 part "there is no kit, and no network" is_without_kit
@@ -168,7 +114,7 @@ in_local() {
 is_taken_away() {
     (cd "$tree" && find bin include lib share ! -type d -printf '/usr/local/%p\n') | xargs -d '\n' rm &&
         (cd "$tree" && find bin include lib share -mindepth 1 -depth -type d -printf '/usr/local/%p\n') |
-        xargs -d '\n' rmdir --ignore-fail-on-non-empty && ldconfig && rm -r "$tree" && is_as_before
+        grep -vxFf "$room/before" | xargs -d '\n' rmdir && ldconfig && rm -r "$tree" && is_as_before
 }
 part "the tarball, in its folder" in_its_folder
 part "the tarball, in /usr/local" in_local
@@ -180,7 +126,7 @@ in_environment() {
     python3 -m venv "$python" && (PATH=$python/bin:$PATH && line 'pip install') && in_python "$python/bin/python"
 }
 is_uninstalled() {
-    "$python/bin/pip" uninstall -y typed-path && ! in_python "$python/bin/python"
+    "$python/bin/pip" uninstall -y typed-path && ! "$python/bin/python" -c 'import typed_path'
 }
 part "the wheel, in an environment" in_environment
 part "it is uninstalled" is_uninstalled
@@ -189,7 +135,7 @@ part "it is uninstalled" is_uninstalled
 in_rust() {
     local crate
     crate=$(basename /try/*.crate .crate)
-    tar -xzf "/try/$crate.crate" -C "$room" && mkdir -p "$room/rust/src" && cp "$room/app.rs" "$room/rust/src/main.rs" &&
+    tar -xzf "/try/$crate.crate" -C "$room" && mkdir -p "$room/rust/src" && cp /try/app/app.rs "$room/rust/src/main.rs" &&
         printf '[package]\nname = "app"\nversion = "0.1.0"\nedition = "2021"\n[dependencies]\n%s = { path = "../%s" }\n' \
             "${crate%-[0-9]*}" "$crate" > "$room/rust/Cargo.toml" &&
         (cd "$room/rust" && cargo build --quiet --offline) && answers "$room/rust/target/debug/app"

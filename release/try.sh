@@ -46,7 +46,8 @@ fi
 
 # What is tried: the release, and the lines of the README by which it is installed and the program is asked.
 mkdir -p "$room"/{upper/try,work,root}
-cp "$out"/* "$release/inside.sh" "$room/upper/try/"
+cp -r "$out"/* "$release"/{inside.sh,app} "$room/upper/try/"
+cp -r "$top/bindings/c/tests/app" "$room/upper/try/cmake"
 awk -v into="$room/upper/try/lines." '
     /^## / { here = $0 == "## To have it" }
     here && /^```/ { open = /^```sh/; block += open; next }
