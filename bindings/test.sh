@@ -276,6 +276,12 @@ if [[ "$*" == declared ]]; then
     installs "$room/a stub" "$room/asked.c"
     each_processor "$room/a stub/lib/libtyped_path.a" "$room/asked.c"
     under_musl "$room/a stub/lib/libtyped_path.a" "$room/asked.c"
+    for needed in rt python3 dpkg-deb git strip; do
+        is_there $needed || { left_out "how a release is made" $needed && end; }
+    done
+    part "what is linked in is listed" "$here/../release/linked.py" check
+    cc "-I$include" "$room/asked.c" "$room/a stub/lib/libtyped_path.a" -o "$room/a program"
+    part "a release is made, twice the same" "$here/../release/same.sh" --from "$room/a stub" --program "$room/a program"
     end
 fi
 

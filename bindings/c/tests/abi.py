@@ -5,7 +5,7 @@ each struct. A file lists it with the number that it stands under, abi.txt.
 abi.py check [HEADER LIST]  says where the header has something else than the list, and which number that takes
 abi.py note [HEADER LIST]   writes the list anew, if the header has the number that the change takes
 abi.py since OLD [LIST]     says which number the changes since an older list take, if the list has a lesser one
-abi.py one [HEADER TOP]     says where the crate, the package of Python or a page has another number than the header
+abi.py one [HEADER TOP]     says where a crate, a package or a page has another number than the header
 
 What is not named is what lies beside this file.
 
@@ -154,11 +154,12 @@ def since(old, file=LIST):
 
 
 def one(header=HEADER, top=TOP):
-    """The number stands in the crate, in the package of Python and on pages too."""
+    """The number stands in the crates, in the packages and on pages too."""
     number = number_of(pathlib.Path(header).read_text())
     first, second, third = parts_of(number)
     single, name = first * 10000 + second * 100 + third, re.escape(shared_object(number))
-    package = "bindings/python/src/typed_path"
+    kept = re.escape(shared_object(number).partition(".so.")[2])
+    package, rust = "bindings/python/src/typed_path", "bindings/rust/Cargo.toml"
     for file, wanted in (
         ("crates/typed_path_c/src/lib.rt", rf"fn typed_path_version\(\) -> u32\s+ensures \{{ result ≡ {single} \}}"),
         (f"{package}/_errors.py", rf"^VERSION = {single}$"),
@@ -167,9 +168,16 @@ def one(header=HEADER, top=TOP):
         ("bindings/python/wheel_of.py", rf'"{re.escape(number)}"'),
         ("bindings/python/wheel_of.py", rf'^SHARED = "{name}"$'),
         ("bindings/python/pyproject.toml", rf'^version = "{re.escape(number)}"$'),
-        ("CHANGELOG.md", rf"\bnow {re.escape(number)}\b"),
+        (rust, rf'^version = "{re.escape(number)}"$'),
+        ("bindings/c/tests/app/CMakeLists.txt", rf"find_package\(typed_path {kept} REQUIRED\)"),
+        ("CHANGELOG.md", rf"^\*\*{re.escape(number)}\*\*"),
+        ("README.md", rf"\./libtyped-path{kept}_"),
         ("docs/C.md", rf"`lib/{name}`"),
+        ("docs/C.md", rf"find_package\(typed_path {kept} REQUIRED\)"),
     ):
+        # The crate of Rust is a package that a checkout may lack.
+        if file == rust and not (pathlib.Path(top) / file).exists():
+            continue
         if not re.search(wanted, (pathlib.Path(top) / file).read_text(), re.MULTILINE):
             yield f"{file} does not have the number {number} of the header, as: {wanted}"
 
