@@ -53,7 +53,7 @@ fi
 strip --strip-unneeded "$laid"/lib/libtyped_path.so.* "$laid/bin/typath"
 settle "$laid"
 
-for part in tarball wheel packages crate; do
-    "$release/$part.sh" "$laid" "$out"
+for part in tarball.sh wheel.py packages.sh crate.sh; do
+    "$release/$part" "$laid" "$out"
 done
 (cd "$out" && sha256sum -- * > "$room/sums" && mv "$room/sums" SHA256SUMS && cat SHA256SUMS)

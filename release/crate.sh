@@ -1,5 +1,5 @@
 #!/usr/bin/env bash
-# Packs the crate of bindings/rust, with the archive in its folder native.
+# Packs the crate of bindings/rust, with the archive and the licences in it.
 #
 # crate.sh LAID OUT
 set -euo pipefail
@@ -16,9 +16,17 @@ if ! command -v cargo > /dev/null; then
 fi
 room=$(mktemp -d)
 trap 'rm -rf "$room"' EXIT
-git -C "$top" archive HEAD bindings/rust LICENSE-MIT LICENSE-APACHE | tar -x -C "$room"
-mkdir -p "$room/bindings/rust/native"
-cp "$1/lib/libtyped_path.a" "$room/bindings/rust/native/"
-cp "$room"/LICENSE-* "$room/bindings/rust/"
-(cd "$room/bindings/rust" && cargo package --quiet --offline --no-verify --target-dir "$room/target")
+crate=$room/crate
+cp -r "$top/bindings/rust" "$crate"
+rm -rf "$crate"/{native,target}
+install -D -m 644 "$1/lib/libtyped_path.a" "$crate/native/x86_64-unknown-linux-gnu/libtyped_path.a"
+cp "$top"/LICENSE-{MIT,APACHE} "$crate/"
+"$release/linked.py" licences > "$crate/LICENSES-LINKED"
+# What is packed beside the code is named in Cargo.toml.
+sed -i 's/^include = \[/&"LICENSE-MIT", "LICENSE-APACHE", "LICENSES-LINKED", /' "$crate/Cargo.toml"
+settle "$crate"
+# Where no registry is reached, Debian's folder of crates serves.
+words=(--offline --no-verify --quiet --target-dir "$room/target") registry=/usr/share/cargo/registry
+[[ ! -d $registry ]] || words+=(--config 'source.crates-io.replace-with="debian"' --config "source.debian.directory=\"$registry\"")
+(cd "$crate" && cargo package "${words[@]}")
 cp "$room"/target/package/*.crate "$2/"

@@ -20,7 +20,12 @@ mkdir -p "$stage/$modules" "$stage/usr/share/doc/libtyped-path-dev"
 mv "$stage/usr/share/doc/typed_path/examples" "$stage/usr/share/doc/libtyped-path-dev/"
 find "$stage/usr/share/man" -type f -exec gzip -9n {} +
 python3 -m zipfile -e "$out"/typed_path-*.whl "$stage/$modules"
-rm -f "$stage/$modules"/typed_path/libtyped_path.so.* "$stage/$modules"/typed_path-*/{RECORD,LICENSE-*}
+rm -f "$stage/$modules"/typed_path-*/{RECORD,LICENSE*}
+# The package of Python has a module of C with the archive in it, or takes the shared object of its package.
+python='python3 (>= 3.8~), libc6'
+if rm "$stage/$modules"/typed_path/libtyped_path.so.* 2> /dev/null; then
+    python="python3 (>= 3.8~), libtyped-path$kept (= $version)"
+fi
 "$release/linked.py" sbom "$stage" "$stage/$libdir"/libtyped_path.{a,so.*} "$stage/usr/bin/typath" > "$room/sbom"
 
 {
@@ -79,7 +84,6 @@ package() {
     chmod -f 755 "$tree"/DEBIAN/{postinst,prerm} || true
     dpkg-deb --root-owner-group --uniform-compression -Zxz --build "$tree" "$out" > /dev/null
 }
-python='python3 (>= 3.8~)'
 sed -e "s/@KEPT@/$kept/g; s/@VERSION@/$version/g; s/@LIBC@/${libc:-2.2.5}/g; s/@LIBC_OF_PROGRAM@/${libc_of_program:-2.2.5}/g" \
     -e "s/@PYTHON@/$python/g" "$release/debian/control" > "$room/control"
 package "libtyped-path$kept" "$libdir/libtyped_path.so.$kept"
