@@ -131,14 +131,15 @@ is_uninstalled() {
 part "the wheel, in an environment" in_environment
 part "it is uninstalled" is_uninstalled
 
-# The crate, unpacked beside a program.
+# The crate, unpacked beside a program. What it may take of a registry, cargo looks for among Debian's crates.
+registry=(--config 'source.crates-io.replace-with="debian"' --config 'source.debian.directory="/usr/share/cargo/registry"')
 in_rust() {
     local crate
     crate=$(basename /try/*.crate .crate)
     tar -xzf "/try/$crate.crate" -C "$room" && mkdir -p "$room/rust/src" && cp /try/app/app.rs "$room/rust/src/main.rs" &&
         printf '[package]\nname = "app"\nversion = "0.1.0"\nedition = "2021"\n[dependencies]\n%s = { path = "../%s" }\n' \
             "${crate%-[0-9]*}" "$crate" > "$room/rust/Cargo.toml" &&
-        (cd "$room/rust" && cargo build --quiet --offline) && answers "$room/rust/target/debug/app"
+        (cd "$room/rust" && cargo build --quiet --offline "${registry[@]}") && answers "$room/rust/target/debug/app"
 }
 if ! ls /try/*.crate > "$room/said" 2>&1; then
     left_out "a program of Rust" "crate in the release"

@@ -1,6 +1,6 @@
 #!/usr/bin/env bash
-# Makes the release twice, of copies of this checkout in two folders, under another mask, zone and home, and compares the
-# bytes. diffoscope, if it is there, says what differs. The last line is `N passed, M failed`, a file each.
+# Makes the release twice, of copies of this checkout in two folders, under another mask, zone and language, and compares
+# the bytes. diffoscope, if it is there, says what differs. The last line is `N passed, M failed`, a file each.
 #
 # release/same.sh [--from DIR] [--program FILE]: as build.sh takes them; without --from both copies prove all.
 set -euo pipefail
@@ -22,9 +22,9 @@ copied() {
 }
 (umask 022 && copied "$room/one" && TZ=UTC "$room/one/release/build.sh" "${words[@]}" "$room/first" > "$room/said" 2>&1) ||
     { cat "$room/said" && exit 1; }
-mkdir -p "$room/another folder/deeper" "$room/home"
+mkdir -p "$room/another folder/deeper"
 (umask 077 && copied "$room/another folder/deeper/two" &&
-    TZ=Asia/Tokyo HOME=$room/home LC_ALL=C "$room/another folder/deeper/two/release/build.sh" "${words[@]}" "$room/second" \
+    TZ=Asia/Tokyo LC_ALL=C "$room/another folder/deeper/two/release/build.sh" "${words[@]}" "$room/second" \
         > "$room/said" 2>&1) || { cat "$room/said" && exit 1; }
 
 passed=0 failed=0

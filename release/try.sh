@@ -29,7 +29,8 @@ done
 out=$(cd "${words[0]}" && pwd)
 (cd "$out" && sha256sum --quiet -c SHA256SUMS) || stopped "$out is not what build.sh wrote"
 mirror=${MIRROR:-http://deb.debian.org/debian}
-packages=bash-completion,ca-certificates,cmake,g++,libc6-dev,make,man-db,pkg-config,python3,python3-pip,python3-venv
+packages=bash-completion,ca-certificates,cmake,g++,libc6-dev,librust-serde-dev,make,man-db,pkg-config
+packages+=,python3,python3-pip,python3-venv
 room=$(mktemp -d)
 trap 'rm -rf "$room"' EXIT
 base=$(realpath -m -- "${base:-$room/base}")
@@ -68,6 +69,6 @@ if [[ $rust ]]; then
     mount --bind "$rust" "$root/opt/rust"
     mount -o remount,ro,bind "$root/opt/rust"
 fi
-env -i HOME=/root LC_ALL=C.UTF-8 PATH=/usr/local/sbin:/usr/local/bin:/usr/sbin:/usr/bin:/sbin:/bin:/opt/rust/bin \
+env -i HOME=/root LC_ALL=C.UTF-8 PATH=/opt/rust/bin:/usr/local/sbin:/usr/local/bin:/usr/sbin:/usr/bin:/sbin:/bin \
     chroot "$root" /bin/bash /try/inside.sh < /dev/null
 END
