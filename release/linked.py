@@ -119,14 +119,15 @@ def sbom(root, files):
             "checksums": [sum_of(file, "sha1"), sum_of(file, "sha256")], "copyrightText": "NOASSERTION",
             "licenseConcluded": "NOASSERTION", "licenseInfoInFiles": ["NOASSERTION"],
         })
-    related = [("SPDXRef-DOCUMENT", "DESCRIBES", packages[0])]
+    related = []
     for file in held:
-        related += [(packages[0]["SPDXID"], "CONTAINS", file), *((file["SPDXID"], "STATIC_LINK", it) for it in packages[1:])]
+        related += [("SPDXRef-DOCUMENT", "DESCRIBES", file), (file["SPDXID"], "GENERATED_FROM", packages[0])]
+        related += [(file["SPDXID"], "STATIC_LINK", it) for it in packages[1:]]
     return {
         "spdxVersion": "SPDX-2.3", "dataLicense": "CC0-1.0", "SPDXID": "SPDXRef-DOCUMENT",
         "name": f"{LIBRARY}-{number}-x86_64-linux",
         "documentNamespace": f"https://typed-path.invalid/spdx/{number}/{commit}",
-        "creationInfo": {"created": created, "creators": ["Tool: linked.py"]},
+        "creationInfo": {"created": created, "creators": [f"Tool: linked.py-{number}"]},
         "comment": "A file holds code of this library, and of the libraries of the kit on which its crates stand so far"
         " as it calls them. NOASSERTION stands where the kit says nothing of a licence.",
         "packages": packages, "files": held,
