@@ -34,7 +34,8 @@ within() {
 }
 program_answers() {
     lend "$root/$1"
-    printf 'join_checked\tunix\t/srv\t%s\n' a/b ../x | within "/$1" | diff - <(printf '%s\n' ok$'\t'/srv/a/b err$'\t'PathTraversalAttack)
+    printf 'join_checked\tunix\t/srv\t%s\n' a/b ../x | within "/$1" |
+        diff - <(printf '%s\t%s\n' ok /srv/a/b err PathTraversalAttack)
 }
 # A program that this machine links, and the root runs.
 answers() {

@@ -22,5 +22,6 @@ settle() {
 
 # A folder packed into a file, as text is packed that has to be the same each time.
 packed() {
-    tar --sort=name --format=gnu --owner=0 --group=0 --numeric-owner -C "$(dirname "$1")" -cf - "$(basename "$1")" | gzip -9n > "$2"
+    tar --sort=name --format=gnu --owner=0 --group=0 --numeric-owner -C "$(dirname "$1")" -cf - "$(basename "$1")" |
+        gzip -9n > "$2"
 }

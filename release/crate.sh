@@ -27,6 +27,7 @@ sed -i 's/^include = \[/&"LICENSE-MIT", "LICENSE-APACHE", "LICENSES-LINKED", /' 
 settle "$crate"
 # Where no registry is reached, Debian's folder of crates serves.
 words=(--offline --no-verify --quiet --target-dir "$room/target") registry=/usr/share/cargo/registry
-[[ ! -d $registry ]] || words+=(--config 'source.crates-io.replace-with="debian"' --config "source.debian.directory=\"$registry\"")
+[[ ! -d $registry ]] ||
+    words+=(--config 'source.crates-io.replace-with="debian"' --config "source.debian.directory=\"$registry\"")
 (cd "$crate" && cargo package "${words[@]}")
 cp "$room"/target/package/*.crate "$2/"

@@ -1,4 +1,5 @@
 #!/usr/bin/env bash
+# shellcheck disable=SC2030,SC2031
 # Runs in the clean root of try.sh, where /try has the release, the folder app, and the lines of the README: lines.1
 # installs, and lines.2 asks the program. It says what it leaves out, and ends in `N passed, M failed`.
 set -uo pipefail
@@ -25,15 +26,17 @@ left_out() {
 
 # All files, but for what the installing itself writes.
 all_files() {
-    find / -xdev \( -path /proc -o -path /dev -o -path /try -o -path /tmp -o -path /root -o -path /var/log -o -path /etc/apt \
-        -o -path /var/cache -o -path /var/lib/dpkg -o -path /var/lib/apt -o -path /opt/rust \) -prune -o -print | sort
+    find / -xdev \( -path /proc -o -path /dev -o -path /try -o -path /tmp -o -path /root -o -path /opt/rust \
+        -o -path /etc/apt -o -path /var/cache -o -path /var/lib/apt -o -path /var/lib/dpkg -o -path /var/log \) \
+        -prune -o -print | sort
 }
 is_as_before() {
     all_files > "$room/after"
     diff "$room/before" "$room/after"
 }
 is_without_kit() {
-    ! command -v rt && ! find / -xdev -name 'rattle*' -not -path '/proc/*' | grep . && ! (exec 3<> /dev/tcp/deb.debian.org/80)
+    ! command -v rt && ! find / -xdev -name 'rattle*' -not -path '/proc/*' | grep . &&
+        ! (exec 3<> /dev/tcp/deb.debian.org/80)
 }
 
 # The line of the README that has this, as its reader types it, who is root here.
@@ -45,35 +48,39 @@ line() {
     typed=$(grep -m 1 -F -- "$1" /try/lines.1) || { echo "the README has no line with: $1" && return 1; }
     eval "$typed"
 }
-# The replies stand in the comments of the README, where ⇥ is a tab.
+# The replies stand in the comments of the README, between backticks, where ⇥ is a tab.
 asks_program() {
-    diff <(bash -o pipefail /try/lines.2) <(grep '^#' /try/lines.2 | grep -o '`[^`]*⇥[^`]*`' | tr -d '`' | sed 's/⇥/\t/g')
+    diff <(bash -o pipefail /try/lines.2) <(sed -n '/^#/p' /try/lines.2 | tr '`' '\n' | sed -n 's/⇥/\t/gp')
 }
 reads_page() {
     man "$@" 2> "$room/warned" | grep -E '^(TYPATH|TYPED_PATH)\('
 }
 completes() {
-    bash -ic '. /usr/share/bash-completion/bash_completion; _completion_loader typath; complete -p typath' 2> "$room/warned" |
-        grep -x 'complete -F _typath typath'
+    bash -ic '. /usr/share/bash-completion/bash_completion; _completion_loader typath; complete -p typath' \
+        2> "$room/warned" | grep -x 'complete -F _typath typath'
 }
 
 # Each program of the folder app says where names go below /srv.
 answers() {
     diff <("$@" a/b ../x) <(printf '%s\n' /srv/a/b refused)
 }
+# Builds a program by what pkg-config says, which is quoted for a shell.
+built() {
+    eval "$* $(pkg-config --cflags --libs typed_path) -o \"\$room/app\"" && answers "$room/app"
+}
 in_c() {
-    eval "cc /try/app/app.c $(pkg-config --cflags --libs typed_path) -o \"\$room/app\"" && answers "$room/app"
+    built cc /try/app/app.c
 }
 in_c_static() {
-    eval "cc -static /try/app/app.c $(pkg-config --static --cflags --libs typed_path) -o \"\$room/app\"" && answers "$room/app"
+    built cc -static /try/app/app.c
 }
 in_cpp() {
-    eval "c++ -std=c++17 /try/app/app.cpp $(pkg-config --cflags --libs typed_path) -o \"\$room/app\"" && answers "$room/app"
+    built c++ -std=c++17 /try/app/app.cpp
 }
 by_cmake() {
     rm -rf "$room/built"
-    cmake -S /try/cmake -B "$room/built" -DSOURCE=/try/app/app.c "$@" && cmake --build "$room/built" && answers "$room/built/app" &&
-        answers "$room/built/app_static"
+    cmake -S /try/cmake -B "$room/built" -DSOURCE=/try/app/app.c "$@" && cmake --build "$room/built" &&
+        answers "$room/built/app" && answers "$room/built/app_static"
 }
 in_python() {
     answers "$1" /try/app/app.py
@@ -102,14 +109,16 @@ part "nothing of them is left" is_as_before
 tree=$room/tree
 in_its_folder() {
     (
-        mkdir "$tree" && cd "$tree" && cp /try/typed-path-*.tar.gz . && line 'tar -xzf' && rm ./*.tar.gz && mv typed-path-*/* . &&
-            rmdir typed-path-* && export PKG_CONFIG_PATH=$tree/lib/pkgconfig LD_LIBRARY_PATH=$tree/lib PATH=$tree/bin:$PATH &&
-            asks_program && in_c && in_c_static && in_cpp && by_cmake "-DCMAKE_PREFIX_PATH=$tree" &&
+        mkdir "$tree" && cd "$tree" && cp /try/typed-path-*.tar.gz . && line 'tar -xzf' && rm ./*.tar.gz &&
+            mv typed-path-*/* . && rmdir typed-path-* || exit 1
+        export PKG_CONFIG_PATH=$tree/lib/pkgconfig LD_LIBRARY_PATH=$tree/lib PATH=$tree/bin:$PATH
+        asks_program && in_c && in_c_static && in_cpp && by_cmake "-DCMAKE_PREFIX_PATH=$tree" &&
             reads_page -l "$tree/share/man/man1/typath.1"
     )
 }
 in_local() {
-    cp -a "$tree"/{bin,include,lib,share} /usr/local/ && ldconfig && asks_program && in_c && in_cpp && by_cmake && reads_page typath
+    cp -a "$tree"/{bin,include,lib,share} /usr/local/ && ldconfig && asks_program && in_c && in_cpp && by_cmake &&
+        reads_page typath
 }
 is_taken_away() {
     (cd "$tree" && find bin include lib share ! -type d -printf '/usr/local/%p\n') | xargs -d '\n' rm &&
@@ -132,7 +141,8 @@ part "the wheel, in an environment" in_environment
 part "it is uninstalled" is_uninstalled
 
 # The crate, unpacked beside a program. What it may take of a registry, cargo looks for among Debian's crates.
-registry=(--config 'source.crates-io.replace-with="debian"' --config 'source.debian.directory="/usr/share/cargo/registry"')
+registry=(--config 'source.crates-io.replace-with="debian"')
+registry+=(--config 'source.debian.directory="/usr/share/cargo/registry"')
 in_rust() {
     local crate
     crate=$(basename /try/*.crate .crate)

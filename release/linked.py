@@ -2,7 +2,8 @@
 """What the archive, the shared object and the program are made of, beside this repository: libraries of the kit, which
 linked.tsv lists with their licences.
 
-linked.py check               says where the list has other libraries than the crates stand on, or other licences than the kit
+linked.py check               says where the list has other libraries than the crates stand on, or other licences than
+                              the kit
 linked.py licences [debian]   prints their licences, each text once, but for one that each Debian has
 linked.py sbom ROOT FILE..    prints these files, which lie below ROOT, and what is in them as SPDX 2.3, in JSON
 """
@@ -83,7 +84,8 @@ def licences(system=""):
     yield "The archive, the shared object and the program hold code of libraries of the kit of Rattle. Their licences:"
     for text, names in names_of.items():
         yield f"\n{'=' * 80}\n{', '.join(dict.fromkeys(names))}\n{'=' * 80}\n\n{text}"
-    yield f"\n{'=' * 80}\n{unsaid}\n{'=' * 80}\n\nThe kit has no text of a licence beside these libraries, so none is named here."
+    yield f"\n{'=' * 80}\n{unsaid}\n{'=' * 80}\n"
+    yield "The kit has no text of a licence beside these libraries, so none is named here."
 
 
 def sum_of(file, kind):
@@ -108,7 +110,9 @@ def sbom(root, files):
     commit, kit_line = said("git", "rev-parse", "HEAD"), said("rt", "--version")
     seconds = int(os.environ.get("SOURCE_DATE_EPOCH") or said("git", "log", "-1", "--format=%ct"))
     created = datetime.datetime.fromtimestamp(seconds, datetime.timezone.utc).strftime("%Y-%m-%dT%H:%M:%SZ")
-    packages = [package(LIBRARY, number, OURS, sourceInfo=f"the commit {commit}, proved and compiled by {kit_line}")]
+    copyright_line = (TOP / "LICENSE-MIT").read_text().split("\n")[0]
+    source = f"the commit {commit}, proved and compiled by {kit_line}"
+    packages = [package(LIBRARY, number, OURS, sourceInfo=source, copyrightText=copyright_line)]
     for name, after, licence, _ in listed():
         comment = "part of the kit" if after == "-" else f"part of the kit, after the Rust crate {after}"
         packages.append(package(name, kit_line.split()[0], licence, comment=comment))
@@ -146,7 +150,7 @@ def main(word="", *files):
         print(*licences(*files), sep="\n")
         return 0
     if word != "check" or files:
-        print(f"linked.py: it takes check, licences [debian], or sbom and a folder and files, and was given: {word}", file=sys.stderr)
+        print(f"linked.py: it takes check, licences or sbom, and was given: {word}", file=sys.stderr)
         return 2
     said = list(wrong())
     print("".join(f"{it}\n" for it in said), end="")

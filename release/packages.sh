@@ -84,8 +84,8 @@ package() {
     chmod -f 755 "$tree"/DEBIAN/{postinst,prerm} || true
     dpkg-deb --root-owner-group --uniform-compression -Zxz --build "$tree" "$out" > /dev/null
 }
-sed -e "s/@KEPT@/$kept/g; s/@VERSION@/$version/g; s/@LIBC@/${libc:-2.2.5}/g; s/@LIBC_OF_PROGRAM@/${libc_of_program:-2.2.5}/g" \
-    -e "s/@PYTHON@/$python/g" "$release/debian/control" > "$room/control"
+sed -e "s/@KEPT@/$kept/g; s/@VERSION@/$version/g; s/@PYTHON@/$python/g; s/@LIBC@/${libc:-2.2.5}/g" \
+    -e "s/@LIBC_OF_PROGRAM@/${libc_of_program:-2.2.5}/g" "$release/debian/control" > "$room/control"
 package "libtyped-path$kept" "$libdir/libtyped_path.so.$kept"
 package libtyped-path-dev usr/include "$libdir" usr/share/man/man3 usr/share/doc/libtyped-path-dev
 package typath usr/bin usr/share/man/man1 usr/share/bash-completion

@@ -20,12 +20,14 @@ copied() {
     git -C "$top" ls-files -z --cached --others --exclude-standard |
         (cd "$top" && tar --null --ignore-failed-read -T - -cf - 2> /dev/null) | tar -x -C "$1"
 }
-(umask 022 && copied "$room/one" && TZ=UTC "$room/one/release/build.sh" "${words[@]}" "$room/first" > "$room/said" 2>&1) ||
-    { cat "$room/said" && exit 1; }
+# build.sh of such a copy, under a mask, a zone and a language.
+built() {
+    (umask "$3" && copied "$1" && TZ=$4 LC_ALL=$5 "$1/release/build.sh" "${words[@]}" "$2") > "$room/said" 2>&1 ||
+        { cat "$room/said" && stopped "there is no release to compare"; }
+}
 mkdir -p "$room/another folder/deeper"
-(umask 077 && copied "$room/another folder/deeper/two" &&
-    TZ=Asia/Tokyo LC_ALL=C "$room/another folder/deeper/two/release/build.sh" "${words[@]}" "$room/second" \
-        > "$room/said" 2>&1) || { cat "$room/said" && exit 1; }
+built "$room/one" "$room/first" 022 UTC C.UTF-8
+built "$room/another folder/deeper/two" "$room/second" 077 Asia/Tokyo C
 
 passed=0 failed=0
 while IFS= read -r file; do
@@ -35,7 +37,9 @@ while IFS= read -r file; do
     else
         echo "$file: FAILED"
         failed=$((failed + 1))
-        [[ $file == SHA256SUMS ]] || ! command -v diffoscope > /dev/null || diffoscope "$room/first/$file" "$room/second/$file" || true
+        if [[ $file != SHA256SUMS ]] && command -v diffoscope > "$room/said"; then
+            diffoscope "$room/first/$file" "$room/second/$file" || true
+        fi
     fi
 done < <((cd "$room/first" && ls && cd "$room/second" && ls) | sort -u)
 echo "$passed passed, $failed failed"

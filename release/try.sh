@@ -1,7 +1,7 @@
 #!/usr/bin/env bash
 # Tries what build.sh made where there is no kit and no network: in a clean root of Debian each package is installed by
-# the lines of the README, its programs are built and run, and all is taken away again (inside.sh). The last line is
-# `N passed, M failed`.
+# the lines of the README, its programs are built and run, and all is taken away again (inside.sh). lintian, if it is
+# there, names no error of them first. The last line is `N passed, M failed`.
 #
 # release/try.sh [--root DIR] OUT
 #
@@ -28,6 +28,11 @@ done
 [[ $(id -u) -eq 0 ]] || misused "it is run as root"
 out=$(cd "${words[0]}" && pwd)
 (cd "$out" && sha256sum --quiet -c SHA256SUMS) || stopped "$out is not what build.sh wrote"
+if command -v lintian > /dev/null; then
+    lintian --allow-root --fail-on error -- "$out"/*.deb || stopped "lintian names an error"
+else
+    echo "try.sh: left out: lintian, which is not there"
+fi
 mirror=${MIRROR:-http://deb.debian.org/debian}
 packages=bash-completion,ca-certificates,cmake,g++,libc6-dev,librust-serde-dev,make,man-db,pkg-config
 packages+=,python3,python3-pip,python3-venv

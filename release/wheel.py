@@ -41,7 +41,8 @@ def add(wheel, name, content):
 
 
 def main(laid, out):
-    add(built(os.path.abspath(laid), os.path.abspath(out)), "LICENSES-LINKED", "\n".join([*linked.licences(), ""]).encode())
+    licences = "\n".join([*linked.licences(), ""])
+    add(built(os.path.abspath(laid), os.path.abspath(out)), "LICENSES-LINKED", licences.encode())
 
 
 if __name__ == "__main__":
