@@ -271,7 +271,11 @@ if [[ "$*" == declared ]]; then
     for needed in ld objcopy ar readelf; do
         is_there $needed || { left_out "how the library is installed" $needed && end; }
     done
+    is_laid_out_again() {
+        (umask 077 && "$tests/stub.sh" "$room/else where/again") && diff -r "$room/a stub" "$room/else where/again"
+    }
     part "a stub is laid out" "$tests/stub.sh" "$room/a stub"
+    part "it is the same bytes elsewhere" is_laid_out_again
     printf '#include <typed_path.h>\nint main(void) { return typed_path_version() != TYPED_PATH_VERSION || !typed_path_runs_here(); }\n' > "$room/asked.c"
     installs "$room/a stub" "$room/asked.c"
     each_processor "$room/a stub/lib/libtyped_path.a" "$room/asked.c"

@@ -14,7 +14,7 @@ DESTDIR=$tree "$top/bindings/c/install.sh" --from "$1" / > /dev/null
 rm -r "$tree/share/typed_path" "$tree"/share/doc/typed_path/LICENSE-*
 mkdir "$tree/docs"
 cp "$top"/docs/*.{md,svg} "$tree/docs/"
-cp "$top"/{CHANGELOG.md,CONTRIBUTING.md,LICENSE-MIT,LICENSE-APACHE} "$tree/"
+cp "$top"/{CHANGELOG,CONTRIBUTING,SECURITY}.md "$top"/LICENSE-{MIT,APACHE} "$tree/"
 "$release/linked.py" licences > "$tree/LICENSES-LINKED"
 "$release/linked.py" sbom "$tree" "$tree"/lib/libtyped_path.{a,so.*} "$tree/bin/typath" > "$tree/sbom.spdx.json"
 sed -e "s/@NUMBER@/$number/g; s/@KEPT@/$(kept_of "$number")/g; s/@KIT@/$(rt --version)/g" \
