@@ -153,31 +153,34 @@ def since(old, file=LIST):
     return too_small(noted(old), noted(file))
 
 
+def handed_out(number):
+    """Where the number stands, or how much of it stays, in what is handed out beside the calls and their package."""
+    kept, rust = re.escape(shared_object(number).partition(".so.")[2]), "bindings/rust/Cargo.toml"
+    # The crate of Rust is one that a checkout may lack.
+    if (TOP / rust).exists():
+        yield rust, rf'^version = "{re.escape(number)}"$'
+    yield "README.md", rf"\./libtyped-path{kept}_"
+    for file in ("docs/C.md", "bindings/c/tests/app/CMakeLists.txt"):
+        yield file, rf"find_package\(typed_path {kept} REQUIRED\)"
+
+
 def one(header=HEADER, top=TOP):
     """The number stands in the crates, in the packages and on pages too."""
     number = number_of(pathlib.Path(header).read_text())
     first, second, third = parts_of(number)
     single, name = first * 10000 + second * 100 + third, re.escape(shared_object(number))
-    kept = re.escape(shared_object(number).partition(".so.")[2])
-    package, rust = "bindings/python/src/typed_path", "bindings/rust/Cargo.toml"
+    package = "bindings/python/src/typed_path"
     for file, wanted in (
         ("crates/typed_path_c/src/lib.rt", rf"fn typed_path_version\(\) -> u32\s+ensures \{{ result ≡ {single} \}}"),
         (f"{package}/_errors.py", rf"^VERSION = {single}$"),
-        (f"{package}/__init__.py", rf'^__version__ = "{re.escape(number)}"$'),
         (f"{package}/_library.py", rf'^NAME = "{name}"$'),
         ("bindings/python/wheel_of.py", rf'"{re.escape(number)}"'),
         ("bindings/python/wheel_of.py", rf'^SHARED = "{name}"$'),
         ("bindings/python/pyproject.toml", rf'^version = "{re.escape(number)}"$'),
-        (rust, rf'^version = "{re.escape(number)}"$'),
-        ("bindings/c/tests/app/CMakeLists.txt", rf"find_package\(typed_path {kept} REQUIRED\)"),
         ("CHANGELOG.md", rf"^\*\*{re.escape(number)}\*\*"),
-        ("README.md", rf"\./libtyped-path{kept}_"),
         ("docs/C.md", rf"`lib/{name}`"),
-        ("docs/C.md", rf"find_package\(typed_path {kept} REQUIRED\)"),
+        *handed_out(number),
     ):
-        # The crate of Rust is a package that a checkout may lack.
-        if file == rust and not (pathlib.Path(top) / file).exists():
-            continue
         if not re.search(wanted, (pathlib.Path(top) / file).read_text(), re.MULTILINE):
             yield f"{file} does not have the number {number} of the header, as: {wanted}"
 
