@@ -153,11 +153,11 @@ def since(old, file=LIST):
     return too_small(noted(old), noted(file))
 
 
-def handed_out(number):
+def handed_out(number, top):
     """Where the number stands, or how much of it stays, in what is handed out beside the calls and their package."""
     kept, rust = re.escape(shared_object(number).partition(".so.")[2]), "bindings/rust/Cargo.toml"
     # The crate of Rust is one that a checkout may lack.
-    if (TOP / rust).exists():
+    if (pathlib.Path(top) / rust).exists():
         yield rust, rf'^version = "{re.escape(number)}"$'
     yield "README.md", rf"\./libtyped-path{kept}_"
     for file in ("docs/C.md", "bindings/c/tests/app/CMakeLists.txt"):
@@ -179,7 +179,7 @@ def one(header=HEADER, top=TOP):
         ("bindings/python/pyproject.toml", rf'^version = "{re.escape(number)}"$'),
         ("CHANGELOG.md", rf"^\*\*{re.escape(number)}\*\*"),
         ("docs/C.md", rf"`lib/{name}`"),
-        *handed_out(number),
+        *handed_out(number, top),
     ):
         if not re.search(wanted, (pathlib.Path(top) / file).read_text(), re.MULTILINE):
             yield f"{file} does not have the number {number} of the header, as: {wanted}"
