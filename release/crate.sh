@@ -6,12 +6,13 @@ set -euo pipefail
 # shellcheck source=common.sh
 . "$(dirname "$0")/common.sh"
 [[ $# -eq 2 ]] || misused "it takes the folder that was laid out, and the one to write"
-if [[ ! -f $top/bindings/rust/Cargo.toml ]]; then
-    echo "crate.sh: left out: the crate, since there is no bindings/rust" >&2
-    exit
-fi
-if ! command -v cargo > /dev/null; then
-    echo "crate.sh: left out: the crate, since there is no cargo" >&2
+# What the crate may take of a registry, as serde, cargo looks for among Debian's crates.
+registry=/usr/share/cargo/registry missing=''
+command -v cargo > /dev/null || missing=cargo
+[[ -d $registry ]] || missing="$registry, which librust-serde-dev brings"
+[[ -f $top/bindings/rust/Cargo.toml ]] || missing=bindings/rust
+if [[ $missing ]]; then
+    echo "crate.sh: left out: the crate, since there is no $missing" >&2
     exit
 fi
 room=$(mktemp -d)
@@ -25,9 +26,6 @@ cp "$top"/LICENSE-{MIT,APACHE} "$crate/"
 # What is packed beside the code is named in Cargo.toml.
 sed -i 's/^include = \[/&"LICENSE-MIT", "LICENSE-APACHE", "LICENSES-LINKED", /' "$crate/Cargo.toml"
 settle "$crate"
-# Where no registry is reached, Debian's folder of crates serves.
-words=(--offline --no-verify --quiet --target-dir "$room/target") registry=/usr/share/cargo/registry
-[[ ! -d $registry ]] ||
-    words+=(--config 'source.crates-io.replace-with="debian"' --config "source.debian.directory=\"$registry\"")
-(cd "$crate" && cargo package "${words[@]}")
+(cd "$crate" && cargo package --offline --no-verify --quiet --target-dir "$room/target" \
+    --config 'source.crates-io.replace-with="debian"' --config "source.debian.directory=\"$registry\"")
 cp "$room"/target/package/*.crate "$2/"
