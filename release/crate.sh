@@ -17,9 +17,8 @@ if [[ $missing ]]; then
 fi
 room=$(mktemp -d)
 trap 'rm -rf "$room"' EXIT
-crate=$room/crate
-cp -r "$top/bindings/rust" "$crate"
-rm -rf "$crate"/{native,target}
+crate=$room/rust
+tar -C "$top/bindings" --exclude=rust/native --exclude=rust/target -cf - rust | tar -x -C "$room"
 install -D -m 644 "$1/lib/libtyped_path.a" "$crate/native/x86_64-unknown-linux-gnu/libtyped_path.a"
 cp "$top"/LICENSE-{MIT,APACHE} "$crate/"
 "$release/linked.py" licences > "$crate/LICENSES-LINKED"
