@@ -9,8 +9,8 @@
 # release/build.sh [--from DIR] [--program FILE] OUT
 #
 # The calls and the program are proved and built by bindings/c/build.sh, of a checkout without changes. With --from it is
-# not run: DIR has what it laid out, and FILE is the program, if that is not DIR/bin/typath. Nothing then looks whether
-# they were built of this checkout.
+# not run: DIR has what it laid out, and FILE is the program, if that is not DIR/bin/typath. The release then says of
+# what DIR notes that it was built, which may be another commit.
 set -euo pipefail
 # shellcheck source=common.sh
 . "$(dirname "$0")/common.sh"

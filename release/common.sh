@@ -14,6 +14,11 @@ export LC_ALL=C.UTF-8 TZ=UTC PYTHONDONTWRITEBYTECODE=1
 SOURCE_DATE_EPOCH=${SOURCE_DATE_EPOCH:-$(git -C "$top" log -1 --format=%ct)}
 export SOURCE_DATE_EPOCH
 
+# Of what a folder was built that was laid out, as bindings/c/build.sh notes it there.
+built_of() {
+    cat "$1/built" 2> /dev/null || echo "a commit and by a kit that were not noted"
+}
+
 # Gives all below a folder the modes of what is handed out, and the time of the commit.
 settle() {
     chmod -R u=rwX,go=rX "$1"

@@ -2,10 +2,11 @@
 """What the archive, the shared object and the program are made of, beside this repository: libraries of the kit, which
 linked.tsv lists with their licences.
 
-linked.py check               says where the list has other libraries than the crates stand on, or other licences than
-                              the kit
-linked.py licences [debian]   prints their licences, each text once, but for one that each Debian has
-linked.py sbom ROOT FILE..    prints these files, which lie below ROOT, and what is in them as SPDX 2.3, in JSON
+linked.py check                     says where the list has other libraries than the crates stand on, or other licences
+                                    than the kit
+linked.py licences [debian]         prints their licences, each text once, but for one that each Debian has
+linked.py sbom BUILT ROOT FILE..    prints these files, which lie below ROOT, and what is in them as SPDX 2.3, in JSON;
+                                    BUILT says of what they were built
 """
 
 import datetime
@@ -100,7 +101,7 @@ def package(name, version, licence, **more):
     }
 
 
-def sbom(root, files):
+def sbom(built, root, files):
     """The document: this library, those of the kit, and the files that hold code of them."""
     def said(*command):
         return subprocess.run(command, cwd=TOP, capture_output=True, text=True, check=True).stdout.strip()
@@ -111,8 +112,7 @@ def sbom(root, files):
     seconds = int(os.environ.get("SOURCE_DATE_EPOCH") or said("git", "log", "-1", "--format=%ct"))
     created = datetime.datetime.fromtimestamp(seconds, datetime.timezone.utc).strftime("%Y-%m-%dT%H:%M:%SZ")
     copyright_line = (TOP / "LICENSE-MIT").read_text().split("\n")[0]
-    source = f"the commit {commit}, proved and compiled by {kit_line}"
-    packages = [package(LIBRARY, number, OURS, sourceInfo=source, copyrightText=copyright_line)]
+    packages = [package(LIBRARY, number, OURS, sourceInfo=f"built of {built}", copyrightText=copyright_line)]
     for name, after, licence, _ in listed():
         comment = "part of the kit" if after == "-" else f"part of the kit, after the Rust crate {after}"
         packages.append(package(name, kit_line.split()[0], licence, comment=comment))
@@ -143,8 +143,8 @@ def sbom(root, files):
 
 
 def main(word="", *files):
-    if word == "sbom" and len(files) > 1:
-        print(json.dumps(sbom(files[0], files[1:]), indent=1))
+    if word == "sbom" and len(files) > 2:
+        print(json.dumps(sbom(files[0], files[1], files[2:]), indent=1))
         return 0
     if word == "licences" and files in [(), ("debian",)]:
         print(*licences(*files), sep="\n")

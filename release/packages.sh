@@ -26,7 +26,7 @@ python='python3 (>= 3.8~), libc6'
 if rm "$stage/$modules"/typed_path/libtyped_path.so.* 2> /dev/null; then
     python="python3 (>= 3.8~), libtyped-path$kept (= $version)"
 fi
-"$release/linked.py" sbom "$stage" "$stage/$libdir"/libtyped_path.{a,so.*} "$stage/usr/bin/typath" > "$room/sbom"
+"$release/linked.py" sbom "$(built_of "$laid")" "$stage" "$stage/$libdir"/libtyped_path.{a,so.*} "$stage/usr/bin/typath" > "$room/sbom"
 
 {
     echo "The paths of Unix and of Windows of typed_path are handed out under the licence of MIT or under that of Apache,"

@@ -16,8 +16,9 @@ mkdir "$tree/docs"
 cp "$top"/docs/*.{md,svg} "$tree/docs/"
 cp "$top"/{CHANGELOG,CONTRIBUTING,SECURITY}.md "$top"/LICENSE-{MIT,APACHE} "$tree/"
 "$release/linked.py" licences > "$tree/LICENSES-LINKED"
-"$release/linked.py" sbom "$tree" "$tree"/lib/libtyped_path.{a,so.*} "$tree/bin/typath" > "$tree/sbom.spdx.json"
-sed -e "s/@NUMBER@/$number/g; s/@KEPT@/$(kept_of "$number")/g; s/@KIT@/$(rt --version)/g" \
-    -e "s/@COMMIT@/$(git -C "$top" rev-parse HEAD)/g" "$release/README.in" > "$tree/README.md"
+built=$(built_of "$1")
+"$release/linked.py" sbom "$built" "$tree" "$tree"/lib/libtyped_path.{a,so.*} "$tree/bin/typath" > "$tree/sbom.spdx.json"
+sed -e "s/@NUMBER@/$number/g; s/@KEPT@/$(kept_of "$number")/g; s/@BUILT@/$built/g" \
+    "$release/README.in" > "$tree/README.md"
 settle "$tree"
 packed "$tree" "$2/$name.tar.gz"

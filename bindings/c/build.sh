@@ -1,7 +1,7 @@
 #!/usr/bin/env bash
 # Proves the calls for C and the program, builds them, and lays out in a folder what a program links with:
 #   include/typed_path.h   include/typed_path.hpp   lib/libtyped_path.a   lib/libtyped_path.so   bin/typath
-#   lib/pkgconfig/typed_path.pc   lib/cmake/typed_path/typed_path-config.cmake
+#   lib/pkgconfig/typed_path.pc   lib/cmake/typed_path/typed_path-config.cmake   built, a line that says of what
 #
 # bindings/c/build.sh [DIR]: without it, in bindings/c/out, from where install.sh takes it.
 set -euo pipefail
@@ -24,3 +24,5 @@ memory=$(dirname "$(readlink -f "$(command -v rt)")")/../c/liblibc_c.a
 (cd "$crates/typath" && rt run < stdin)
 mkdir -p "$dir/bin"
 cp "$crates/typath/out/typath" "$dir/bin/"
+commit=$(git -C "$here" describe --always --abbrev=40 --exclude='*' --dirty=' with changes' 2> /dev/null) || commit='not noted'
+echo "the commit $commit, by the kit $(rt --version)" > "$dir/built"
