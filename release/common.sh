@@ -19,6 +19,11 @@ built_of() {
     cat "$1/built" 2> /dev/null || echo "a commit and by a kit that were not noted"
 }
 
+# The least number of the C library whose names a file asks for.
+libc_of() {
+    readelf -V "$1" | grep -o 'GLIBC_[0-9.]*' | sort -V | sed -n '$s/GLIBC_//p'
+}
+
 # Gives all below a folder the modes of what is handed out, and the time of the commit.
 settle() {
     chmod -R u=rwX,go=rX "$1"

@@ -21,8 +21,9 @@ import sys
 
 HERE = pathlib.Path(__file__).resolve().parent
 TOP = HERE.parent
-# What is handed out is made of these crates.
+# What is handed out is made of these crates, and of archives of the kit's folder c, which are C.
 CRATES = ("typed_path_c", "typath")
+OF_C = {"liblibc_c": "asks for memory by malloc, realloc and free", "libos_c": "asks the system; in the program alone"}
 OURS = "MIT OR Apache-2.0"
 LIBRARY = "typed-path"
 
@@ -86,7 +87,8 @@ def licences(system=""):
     for text, names in names_of.items():
         yield f"\n{'=' * 80}\n{', '.join(dict.fromkeys(names))}\n{'=' * 80}\n\n{text}"
     yield f"\n{'=' * 80}\n{unsaid}\n{'=' * 80}\n"
-    yield "The kit has no text of a licence beside these libraries, so none is named here."
+    yield "The kit has no text of a licence beside these libraries, nor beside its archives of C, liblibc_c.a and"
+    yield "libos_c.a, so none is named here."
 
 
 def sum_of(file, kind):
@@ -116,6 +118,9 @@ def sbom(built, root, files):
     for name, after, licence, _ in listed():
         comment = "part of the kit" if after == "-" else f"part of the kit, after the Rust crate {after}"
         packages.append(package(name, kit_line.split()[0], licence, comment=comment))
+    for name, what in OF_C.items():
+        comment = f"c/{name}.a of the kit, of C, which is not proved: {what}"
+        packages.append(package(name, kit_line.split()[0], "NOASSERTION", comment=comment))
     held = []
     for at, file in enumerate(map(pathlib.Path, files)):
         held.append({
@@ -126,14 +131,17 @@ def sbom(built, root, files):
     related = []
     for file in held:
         related += [("SPDXRef-DOCUMENT", "DESCRIBES", file), (file["SPDXID"], "GENERATED_FROM", packages[0])]
-        related += [(file["SPDXID"], "STATIC_LINK", it) for it in packages[1:]]
+        related += [
+            (file["SPDXID"], "STATIC_LINK", it)
+            for it in packages[1:] if it["name"] != "libos_c" or file["fileName"].endswith("/bin/typath")
+        ]
     return {
         "spdxVersion": "SPDX-2.3", "dataLicense": "CC0-1.0", "SPDXID": "SPDXRef-DOCUMENT",
         "name": f"{LIBRARY}-{number}-x86_64-linux",
         "documentNamespace": f"https://typed-path.invalid/spdx/{number}/{commit}",
         "creationInfo": {"created": created, "creators": [f"Tool: linked.py-{number}"]},
-        "comment": "A file holds code of this library, and of the libraries of the kit on which its crates stand so far"
-        " as it calls them. NOASSERTION stands where the kit says nothing of a licence.",
+        "comment": "STATIC_LINK names all libraries of the kit on which the crates of a file stand: the file holds what it"
+        " calls of them, which may be nothing. NOASSERTION stands where the kit says nothing of a licence.",
         "packages": packages, "files": held,
         "relationships": [
             {"spdxElementId": one, "relationshipType": kind, "relatedSpdxElement": other["SPDXID"]}

@@ -39,11 +39,8 @@ fi
 printf 'typed-path (%s) stable; urgency=medium\n\n  * The release %s.\n\n -- %s  %s\n' \
     "$version" "$number" "$maintainer" "$(date -R -d "@$SOURCE_DATE_EPOCH")" > "$room/changelog"
 
-# The least C library whose names a file asks for.
-libc_of() {
-    readelf -V "$1" 2> /dev/null | grep -o 'GLIBC_[0-9.]*' | sort -V | sed -n '$s/GLIBC_//p'
-}
-libc=$(libc_of "$stage/$libdir/libtyped_path.so.$kept") libc_of_program=$(libc_of "$stage/usr/bin/typath")
+libc=$(libc_of "$stage/$libdir/libtyped_path.so.$kept") || libc=2.2.5
+libc_of_program=$(libc_of "$stage/usr/bin/typath")
 control_of() {
     echo "Version: $version"
     echo "Architecture: amd64"
@@ -84,8 +81,8 @@ package() {
     chmod -f 755 "$tree"/DEBIAN/{postinst,prerm} || true
     dpkg-deb --root-owner-group --uniform-compression -Zxz --build "$tree" "$out" > /dev/null
 }
-sed -e "s/@KEPT@/$kept/g; s/@VERSION@/$version/g; s/@PYTHON@/$python/g; s/@LIBC@/${libc:-2.2.5}/g" \
-    -e "s/@LIBC_OF_PROGRAM@/${libc_of_program:-2.2.5}/g" "$release/debian/control" > "$room/control"
+sed -e "s/@KEPT@/$kept/g; s/@VERSION@/$version/g; s/@PYTHON@/$python/g; s/@LIBC@/$libc/g" \
+    -e "s/@LIBC_OF_PROGRAM@/$libc_of_program/g" "$release/debian/control" > "$room/control"
 package "libtyped-path$kept" "$libdir/libtyped_path.so.$kept"
 package libtyped-path-dev usr/include "$libdir" usr/share/man/man3 usr/share/doc/libtyped-path-dev
 package typath usr/bin usr/share/man/man1 usr/share/bash-completion

@@ -19,6 +19,6 @@ cp "$top"/{CHANGELOG,CONTRIBUTING,SECURITY}.md "$top"/LICENSE-{MIT,APACHE} "$tre
 built=$(built_of "$1")
 "$release/linked.py" sbom "$built" "$tree" "$tree"/lib/libtyped_path.{a,so.*} "$tree/bin/typath" > "$tree/sbom.spdx.json"
 sed -e "s/@NUMBER@/$number/g; s/@KEPT@/$(kept_of "$number")/g; s/@BUILT@/$built/g" \
-    "$release/README.in" > "$tree/README.md"
+    -e "s/@LIBC_OF_PROGRAM@/$(libc_of "$tree/bin/typath")/g" "$release/README.in" > "$tree/README.md"
 settle "$tree"
 packed "$tree" "$2/$name.tar.gz"
