@@ -140,8 +140,8 @@ def sbom(built, root, files):
         "name": f"{LIBRARY}-{number}-x86_64-linux",
         "documentNamespace": f"https://typed-path.invalid/spdx/{number}/{commit}",
         "creationInfo": {"created": created, "creators": [f"Tool: linked.py-{number}"]},
-        "comment": "STATIC_LINK names all libraries of the kit on which the crates of a file stand: the file holds what it"
-        " calls of them, which may be nothing. NOASSERTION stands where the kit says nothing of a licence.",
+        "comment": "STATIC_LINK names all libraries of the kit on which the crates of a file stand: the file holds what"
+        " it calls of them, which may be nothing. NOASSERTION stands where the kit says nothing of a licence.",
         "packages": packages, "files": held,
         "relationships": [
             {"spdxElementId": one, "relationshipType": kind, "relatedSpdxElement": other["SPDXID"]}
