@@ -52,6 +52,10 @@ line() {
 asks_program() {
     diff <(bash -o pipefail /try/lines.2) <(sed -n '/^#/p' /try/lines.2 | tr '`' '\n' | sed -n 's/⇥/\t/gp')
 }
+has_number() {
+    local number
+    number=$(dpkg-query -W -f '${Version}' typath) && typath --version | grep -F "typath ${number%-*},"
+}
 reads_page() {
     man "$@" 2> "$room/warned" | grep -E '^(TYPATH|TYPED_PATH)\('
 }
@@ -92,6 +96,7 @@ all_files > "$room/before"
 # The packages of Debian.
 part "typath is installed" line ./typath_
 part "the program answers as the README says" asks_program
+part "the program has the number of its package" has_number
 part "man typath" reads_page typath
 part "bash completes typath" completes
 part "the library is installed" line ./libtyped-path-dev_

@@ -159,6 +159,8 @@ def handed_out(number, top):
     # The crate of Rust is one that a checkout may lack.
     if (pathlib.Path(top) / rust).exists():
         yield rust, rf'^version = "{re.escape(number)}"$'
+    yield "crates/typath/src/words.rt", rf'^pub const VERSION: &str =\s+"typath {re.escape(number)},'
+    yield "refusals/version", rf"^typath {re.escape(number)},"
     yield "README.md", rf"\./libtyped-path{kept}_"
     for file in ("docs/C.md", "bindings/c/tests/app/CMakeLists.txt"):
         yield file, rf"find_package\(typed_path {kept} REQUIRED\)"
