@@ -262,6 +262,7 @@ if [[ "$*" == declared ]]; then
     each_language reads
     each_standard "the header of C++" reads_plus
     agree
+    part "the crate of Rust is laid out, and declares the calls" "$here/rust/test.sh" declared
     part "the tests and an example of C are read" compiles "$tests"/{boundary,rows}.c "$here/c/examples/check_names.c"
     if has_libarchive; then
         part "the example over libarchive is read" compiles "$here/c/examples/extract.c"
@@ -519,5 +520,12 @@ test.test_pathlib test_pathlib_of_cpython the tests of CPython
 END
 else
     left_out "Python" python3
+fi
+
+# Rust.
+if is_there cargo; then
+    part "the crate of Rust" "$here/rust/test.sh" "$dir"
+else
+    left_out "the crate of Rust" cargo
 fi
 end
