@@ -600,7 +600,7 @@ makers! {
     join_portable = typed_path_join_portable, 4 -> TryError<JoinError>;
     resolve_checked = typed_path_resolve_checked, 5 -> TryError<CheckedPathError>;
     with_file_name set_file_name = typed_path_with_file_name, 4 -> OutOfMemory;
-    with_extension replace_extension = typed_path_with_extension, 2 -> OutOfMemory;
+    with_extension = typed_path_with_extension, 2 -> OutOfMemory;
     with_added_extension append_extension = typed_path_with_added_extension, 2 -> OutOfMemory;
 }
 
@@ -737,22 +737,28 @@ pub(crate) fn push_checked(
     Ok(push(dialect, path, other)?)
 }
 
-/// Puts another extension, or one more; whether there is a file name that has it.
-macro_rules! extensions {
-    ($($name:ident = $change:ident;)*) => {$(
-        pub(crate) fn $name(dialect: u32, path: &mut Vec<u8>, extension: &[u8]) -> Result<bool, OutOfMemory> {
-            let there = file_name(dialect, path).is_some();
-            if there {
-                $change(dialect, path, extension)?;
-            }
-            Ok(there)
-        }
-    )*};
+/// Cuts a path behind its stem, and puts a dot and an extension there, unless that is empty: what
+/// `typed_path_with_extension` makes, in the memory of the path. Whether there is a file name.
+pub(crate) fn set_extension(dialect: u32, path: &mut Vec<u8>, extension: &[u8]) -> Result<bool, OutOfMemory> {
+    let Some(stem) = file_stem(dialect, path) else {
+        return Ok(false);
+    };
+    let dot: &[u8] = if extension.is_empty() { b"" } else { b"." };
+    let length = stem.end + dot.len() + extension.len();
+    path.try_reserve(length.saturating_sub(path.len())).map_err(|_| OutOfMemory)?;
+    path.truncate(stem.end);
+    path.extend_from_slice(dot);
+    path.extend_from_slice(extension);
+    Ok(true)
 }
 
-extensions! {
-    set_extension = replace_extension;
-    add_extension = append_extension;
+/// Puts one extension more; whether there is a file name.
+pub(crate) fn add_extension(dialect: u32, path: &mut Vec<u8>, extension: &[u8]) -> Result<bool, OutOfMemory> {
+    let there = file_name(dialect, path).is_some();
+    if there {
+        append_extension(dialect, path, extension)?;
+    }
+    Ok(there)
 }
 
 /// Hands on the words of a path's key.
@@ -821,58 +827,34 @@ mod tests {
         assert_eq!(version() / 100, major * 100 + minor);
     }
 
-    /// The checked join of this crate, which asks two calls, is that of the library, which is one.
+    /// What is put together here is what one call of the library makes.
     #[test]
-    fn two_calls_make_the_checked_join() {
-        let paths = [
-            "",
-            ".",
-            "a",
-            "..",
-            "/",
-            "a/..",
-            "a/../..",
-            "/a",
-            r"\a",
-            r"C:\a",
-            "C:a",
-            "C:",
-            "con",
-            "a\0",
-            r"..\x",
-            "a/b",
-            r"\\s\h",
-            r"\\s",
-            r"\\?\C:\a",
-            r"\\?\C:",
-            r"\\?\UNC\s\h\",
-            "//?/C:/a",
-            r"a\.\b",
-            "a/",
-            "?",
-        ];
+    fn what_is_put_together_is_what_calls_make() {
+        const PATHS: &str = r"|.|a|..|/|a/..|a/../..|/a|\a|C:\a|C:a|C:|con|..\x|a/b|a.b/|a.b.c//.|.a|a.|...|x.日|\\s\h|\\s|\\?\C:\a.b|\\?\C:|\\?\UNC\s\h\|//?/C:/a|a\.\b|a/|?|a\..";
         for dialect in [UNIX, WINDOWS] {
-            for path in paths.map(str::as_bytes) {
-                for other in paths.map(str::as_bytes) {
-                    // SAFETY: the pointers are those of slices, with their lengths, and of new memory.
-                    let one = made(bound(path, other, 4), |out, size, len| unsafe {
-                        typed_path_join_checked(
-                            dialect,
-                            path.as_ptr(),
-                            path.len(),
-                            other.as_ptr(),
-                            other.len(),
-                            out,
-                            size,
-                            len,
-                        )
-                    });
-                    assert_eq!(
-                        join_checked(dialect, path, other),
-                        one.map_err(refusal),
-                        "{path:?} {other:?}"
-                    );
-                }
+            for (path, other) in
+                PATHS.split('|').flat_map(|path| PATHS.split('|').map(move |other| (path, other)))
+            {
+                let (path, other) = (path.as_bytes(), other.as_bytes());
+                // SAFETY: the pointers are those of slices, with their lengths, and of new memory.
+                let joined = made(bound(path, other, 4), |out, size, len| unsafe {
+                    let (path_len, other_len) = (path.len(), other.len());
+                    typed_path_join_checked(
+                        dialect,
+                        path.as_ptr(),
+                        path_len,
+                        other.as_ptr(),
+                        other_len,
+                        out,
+                        size,
+                        len,
+                    )
+                });
+                assert_eq!(join_checked(dialect, path, other), joined.map_err(refusal), "{path:?} {other:?}");
+                let mut extended = path.to_vec();
+                let is_named = file_name(dialect, path).is_some();
+                assert_eq!(set_extension(dialect, &mut extended, other), Ok(is_named));
+                assert_eq!(with_extension(dialect, path, other), Ok(extended), "{path:?} {other:?}");
             }
         }
     }
