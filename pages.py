@@ -51,6 +51,10 @@ LEFT_OUT = {
     ("docs/C.md", "cc app.c"): "takes what that installs, as bindings/test.sh does",
     ("bindings/python/README.md", ">>>"): "run by bindings/test.sh",
     ("bindings/python/README.md", "TYPED_PATH_DIR="): "takes what bindings/c/build.sh lays out, and pip",
+    ("bindings/rust/README.md", "typed-path = "): "stands in a Cargo.toml, as bindings/rust/test.sh tries",
+    ("bindings/rust/README.md", "[patch.crates-io]"): "stands in a Cargo.toml, as bindings/rust/test.sh tries",
+    ("bindings/rust/README.md", "bindings/c/build.sh DIR"): "proves the calls for C, as bindings/test.sh does",
+    ("bindings/rust/README.md", "cd bindings/rust && "): "takes what that lays out, as bindings/rust/test.sh does",
     ("docs/PERFORMANCE.md", "parallel "): "takes the proved program, and the package parallel",
     (TYPATH, "# over all cores"): "says what the next line does",
     (TYPATH, "parallel "): "takes the package parallel",
@@ -87,8 +91,6 @@ FRAGMENTS = {
     (CALLING, "let path = TypedPath"): "let mut names = Vec::new(alloc); let mut others = Vec::new(alloc);",
     (CALLING, "read_ends("): 'let mut components = UnixPath::new(b"/a").components(); let mut answers = Vec::new(alloc);'
     " let mut owned = UnixPathBuf::new(alloc); let mut replies = Vec::new(alloc);",
-    ("docs/COMING_FROM.md", "let joined = "):
-    r'let directory = WindowsPath::new(br"C:\work"); let path = WindowsPath::new(br"..\a");',
 }
 
 # The crate of these functions.
