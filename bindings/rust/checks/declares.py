@@ -13,14 +13,11 @@ sys.path.insert(0, str(pathlib.Path(__file__).resolve().parents[2] / "c/tests"))
 from exports import MARK, declared  # noqa: E402
 
 # Calls that the crate may do without: it reads step by step, hashes by the hasher that it is handed, its errors print
-# the texts of the statuses alone, a checked join is a check and a push, what is made absolute is read from a directory
-# of this machine, and typed-path has no call without regard to case.
+# the texts of the statuses alone, and a checked join is a check and a push.
 UNUSED = {
-    "typed_path_absolutize_from", "typed_path_components", "typed_path_component_at", "typed_path_hash",
-    "typed_path_hash_keyed", "typed_path_kind_text", "typed_path_join_checked", "typed_path_join_portable",
-    "typed_path_join_checked_batch", "typed_path_join_portable_batch", "typed_path_to_ascii_lowercase",
-    "typed_path_starts_with_ignore_ascii_case", "typed_path_equal_ignore_ascii_case",
-    "typed_path_compare_ignore_ascii_case",
+    "typed_path_components", "typed_path_component_at", "typed_path_hash", "typed_path_hash_keyed",
+    "typed_path_kind_text", "typed_path_join_checked", "typed_path_join_portable", "typed_path_join_checked_batch",
+    "typed_path_join_portable_batch",
 }
 STRUCTS = {
     "typed_path_span": "Span", "typed_path_component": "Placed", "typed_path_reading": "Reading",

@@ -117,7 +117,7 @@ struct Place {
 type Text = *const u8;
 type Out = *mut u8;
 
-extern "C" {
+unsafe extern "C" {
     #[cfg(test)]
     fn typed_path_version() -> u32;
     fn typed_path_runs_here() -> bool;
@@ -546,11 +546,7 @@ impl Refusal for TryError<JoinError> {
 
 #[cold]
 fn refusal<E: Refusal>(status: u32) -> E {
-    if status == status::OUT_OF_MEMORY {
-        OutOfMemory.into()
-    } else {
-        E::of_status(status)
-    }
+    if status == status::OUT_OF_MEMORY { OutOfMemory.into() } else { E::of_status(status) }
 }
 
 /// The bytes that a call of two texts needs at most, with the NUL: those of both, and some more.

@@ -6,7 +6,7 @@ use core::fmt;
 use core::marker::PhantomData;
 
 use ::serde::de::{self, Unexpected, Visitor};
-use ::serde::{ser, Deserialize, Deserializer, Serialize, Serializer};
+use ::serde::{Deserialize, Deserializer, Serialize, Serializer, ser};
 
 use crate::encoding::*;
 use crate::family::*;

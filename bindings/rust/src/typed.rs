@@ -8,6 +8,7 @@ use core::cmp::Ordering;
 use core::fmt;
 use core::iter::FusedIterator;
 
+use crate::TryAsRef;
 use crate::components::{debug_items, lends_text, shows_text};
 use crate::encoding::*;
 use crate::errors::{CheckedPathError, JoinError, OutOfMemory, PortableError, StripPrefixError, TryError};
@@ -17,7 +18,6 @@ use crate::key::Key;
 use crate::private::Sealed;
 use crate::unix::*;
 use crate::windows::*;
-use crate::TryAsRef;
 
 /// Which dialect a path is of.
 ///

@@ -10,7 +10,7 @@ use crate::components::{
 };
 use crate::constants::unix::{CURRENT_DIR, CURRENT_DIR_STR, PARENT_DIR, PARENT_DIR_STR, SEPARATOR_STR};
 use crate::encoding::*;
-use crate::ffi::{kind, Placed, UNIX};
+use crate::ffi::{Placed, UNIX, kind};
 use crate::{Path, PathBuf, Utf8Path, Utf8PathBuf};
 
 /// A path of Unix, borrowed.

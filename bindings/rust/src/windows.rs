@@ -10,7 +10,7 @@ use crate::components::{
 };
 use crate::constants::windows::{CURRENT_DIR, CURRENT_DIR_STR, PARENT_DIR, PARENT_DIR_STR, SEPARATOR_STR};
 use crate::encoding::*;
-use crate::ffi::{self, kind, Placed, WINDOWS};
+use crate::ffi::{self, Placed, WINDOWS, kind};
 use crate::{ParseError, Path, PathBuf, Utf8Path, Utf8PathBuf};
 
 /// A path of Windows, borrowed.

@@ -1,7 +1,7 @@
 //! Memory that is refused, to this crate and to the library behind it: both ask the `malloc` and `realloc` below.
 
 use std::cell::Cell;
-use std::ffi::{c_char, c_void, CStr};
+use std::ffi::{CStr, c_char, c_void};
 use std::mem::transmute;
 use std::process::Command;
 use std::ptr::null_mut;
@@ -15,7 +15,7 @@ thread_local! {
     static REFUSED: Cell<bool> = const { Cell::new(false) };
 }
 
-extern "C" {
+unsafe extern "C" {
     fn dlsym(handle: *mut c_void, name: *const c_char) -> *mut c_void;
 }
 
@@ -52,7 +52,7 @@ fn is_granted() -> bool {
 type Malloc = extern "C" fn(usize) -> *mut c_void;
 type Realloc = extern "C" fn(*mut c_void, usize) -> *mut c_void;
 
-#[no_mangle]
+#[unsafe(no_mangle)]
 extern "C" fn malloc(size: usize) -> *mut c_void {
     if !is_granted() {
         return null_mut();
@@ -62,7 +62,7 @@ extern "C" fn malloc(size: usize) -> *mut c_void {
     unsafe { transmute::<*mut c_void, Malloc>(behind(c"malloc", &FOUND))(size) }
 }
 
-#[no_mangle]
+#[unsafe(no_mangle)]
 extern "C" fn realloc(block: *mut c_void, size: usize) -> *mut c_void {
     if !is_granted() {
         return null_mut();

@@ -1,6 +1,6 @@
 // The calls of one crate that are timed: `main.rs` takes this in once for each, where `typed_path` names it.
 
-use super::{hasher, leaked, Row, Sort, NAMES};
+use super::{NAMES, Row, Sort, hasher, leaked};
 use std::cell::RefCell;
 use std::hash::{Hash, Hasher};
 use typed_path::*;

@@ -1,7 +1,7 @@
 // The calls of std that are timed, and those of camino, which has the same: `main.rs` takes this in once for each,
 // behind the types and what their texts are.
 
-use super::{hasher, leaked, Row, Sort, NAMES};
+use super::{NAMES, Row, Sort, hasher, leaked};
 use std::cell::RefCell;
 use std::hash::{Hash, Hasher};
 

@@ -1,6 +1,6 @@
 // What one crate answers of two paths: `main.rs` takes this in once for each, where `typed_path` names it.
 
-use super::{fed, items, Told};
+use super::{Told, fed, items};
 use typed_path::*;
 
 /// A function over paths of one dialect, by the types of a family.

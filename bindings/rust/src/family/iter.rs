@@ -29,7 +29,7 @@ macro_rules! iterators {
             inner: <T as $Encoding>::Components<'a>,
         }
 
-        impl<'a, T: $Encoding + 'a> $Iter<'a, T> {
+        impl<'a, T: $Encoding> $Iter<'a, T> {
             #[inline]
             pub(crate) fn new(inner: <T as $Encoding>::Components<'a>) -> Self {
                 $Iter { _encoding: PhantomData, inner }

@@ -2,9 +2,9 @@
 
 use std::ffi::{OsStr, OsString};
 
+use crate::TryAsRef;
 use crate::encoding::*;
 use crate::family::*;
-use crate::TryAsRef;
 
 impl<T: Encoding> TryFrom<PathBuf<T>> for std::path::PathBuf {
     type Error = PathBuf<T>;
