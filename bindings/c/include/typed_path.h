@@ -38,7 +38,7 @@
 extern "C" {
 #endif
 
-/* The version of this header: its parts, and one number with two digits for each of them. */
+/* The version of this header: its parts, and one number with two digits for each of them: 0.2.1 is 201. */
 #define TYPED_PATH_VERSION_MAJOR 0
 #define TYPED_PATH_VERSION_MINOR 2
 #define TYPED_PATH_VERSION_PATCH 1
@@ -82,7 +82,8 @@ extern "C" {
 #define TYPED_PATH_STATUS_NOT_TEXT UINT32_C(17)             /* a name that is not UTF-8 */
 
 /* The kinds of components. TYPED_PATH_KIND_PREFIX_VERBATIM and those after it are prefixes, which only
-   Windows has. */
+   Windows has. A `.` is a component where it comes first in a path or right after a drive, as in `C:.`, and
+   anywhere behind `\\?\`; others are skipped. */
 #define TYPED_PATH_KIND_ROOT UINT32_C(0)
 #define TYPED_PATH_KIND_CURRENT UINT32_C(1)
 #define TYPED_PATH_KIND_PARENT UINT32_C(2)
@@ -233,7 +234,9 @@ TYPED_PATH_MUST_USE uint32_t typed_path_relative_to(
     uint32_t dialect, const char *path, size_t path_len, const char *base, size_t base_len,
     char *out, size_t out_size, size_t *len);
 
-/* Puts the path as it is written in the dialect `other`: a copy if that is its own.
+/* Puts the path as it is written in the dialect `other`: a copy if that is its own. Else a prefix other than a
+   drive `C:` becomes a root, and a root replaces what precedes it: `C:\a` and `\\s\h\a` of Windows are `/a` of
+   Unix, and `C:a` is `C:/a`. So does a name that has a root or a prefix in that dialect: `a/x:y` of Unix is `x:y`.
    TYPED_PATH_CONVERT_BOUND. */
 TYPED_PATH_MUST_USE uint32_t typed_path_convert(
     uint32_t dialect, const char *path, size_t path_len, uint32_t other,
@@ -241,7 +244,11 @@ TYPED_PATH_MUST_USE uint32_t typed_path_convert(
 
 /* Puts the same if each name and each drive `C:` is pushed as typed_path_join_checked does, in its own dialect too: from
    Windows to Windows `C:\a` is refused. The status, from 1 to 4, names what the first that offends there is refused
-   for. TYPED_PATH_CONVERT_BOUND. */
+   for: from Unix to Windows the name of `a/x:y` is a prefix and a name, TYPED_PATH_STATUS_UNEXPECTED_PREFIX, and
+   `xy:z` is not allowed, TYPED_PATH_STATUS_INVALID_FILENAME. This is no check of where a path leads, since its own
+   `..` and root are accepted: `../x` is `..\x`, `/x` is `\x`, and the one name `a\b` is two. A prefix other than
+   a drive becomes a root: `\\s\h\x` of Windows is `/x` of Unix, and `\x` of Windows. For a name from outside use
+   typed_path_join_checked. TYPED_PATH_CONVERT_BOUND. */
 TYPED_PATH_MUST_USE uint32_t typed_path_convert_checked(
     uint32_t dialect, const char *path, size_t path_len, uint32_t other,
     char *out, size_t out_size, size_t *len);
@@ -249,7 +256,9 @@ TYPED_PATH_MUST_USE uint32_t typed_path_convert_checked(
 /* Puts the normal path of the path if it is absolute, else that of the Unix path `directory`, written in the
    dialect of the path, with the path pushed onto it. TYPED_PATH_STATUS_AMBIGUOUS if the path is absolute
    neither alone nor after the directory. That is asked before the path is normalized, so on Windows what is
-   put may be on another drive, and not absolute: of `C:\a\D:` it is `D:`. TYPED_PATH_JOIN_BOUND. */
+   put may be on another drive, and not absolute: of `C:\a\D:` it is `D:`. A Windows path that is not absolute
+   is ambiguous after `/srv`, as that names no drive: use typed_path_absolutize_from with a directory of Windows.
+   TYPED_PATH_JOIN_BOUND. */
 TYPED_PATH_MUST_USE uint32_t typed_path_absolutize(
     uint32_t dialect, const char *path, size_t path_len, const char *directory, size_t directory_len,
     char *out, size_t out_size, size_t *len);
@@ -262,9 +271,9 @@ TYPED_PATH_MUST_USE uint32_t typed_path_absolutize_from(
 
 /* Puts checked joins of many names onto one base. The names follow one another in `names`: each begins where
    the one before it ends, the first at 0, and `ends` has the index at which each ends. The answers are put one
-   after the other into `out`, without a NUL: `out_ends` takes the index at which each ends, and `statuses`
-   takes TYPED_PATH_STATUS_DONE, or from 1 to 4 why the name is refused, whose answer is empty. `*done` is set
-   to how many names were answered, and the call returns
+   after the other into `out`, without a NUL, so print each by its length: `out_ends` takes the index at which
+   each ends, and `statuses` takes TYPED_PATH_STATUS_DONE, or from 1 to 4 why the name is refused, whose answer
+   is empty. `*done` is set to how many names were answered, and the call returns
    - TYPED_PATH_STATUS_DONE: all were.
    - TYPED_PATH_STATUS_TOO_SMALL: the answer to the next name does not fit, or its end, or its status.
    - TYPED_PATH_STATUS_OUT_OF_MEMORY: an allocation failed for the next name.
@@ -286,7 +295,8 @@ TYPED_PATH_MUST_USE uint32_t typed_path_join_portable_batch(
 /* Parts of a path. Each call sets `*span` to where the part is, or returns TYPED_PATH_STATUS_NONE if there
    is no such part. Then, and for a bad dialect, `*span` is unchanged. */
 
-/* The path without its last component. None for an empty path, a root, or a prefix but a drive `C:`. */
+/* The path without its last component: of `\\s\h\a` it is `\\s\h\`, and of `a` and `C:` it is empty. None for an
+   empty path, one whose last component is the root, as `/`, `C:\` or `\\s\h\`, and a prefix alone but `C:`. */
 TYPED_PATH_MUST_USE uint32_t typed_path_parent(
     uint32_t dialect, const char *path, size_t path_len, typed_path_span *span);
 
@@ -302,7 +312,8 @@ TYPED_PATH_MUST_USE uint32_t typed_path_file_stem(
 TYPED_PATH_MUST_USE uint32_t typed_path_file_prefix(
     uint32_t dialect, const char *path, size_t path_len, typed_path_span *span);
 
-/* What follows the last dot of the file name. None if that has no dot but one at its start. */
+/* What follows the last dot of the file name, which may be empty, as of `a.`. None if that has no dot but one at
+   its start. */
 TYPED_PATH_MUST_USE uint32_t typed_path_extension(
     uint32_t dialect, const char *path, size_t path_len, typed_path_span *span);
 
@@ -384,7 +395,7 @@ TYPED_PATH_MUST_USE uint32_t typed_path_is_absolute(
     uint32_t dialect, const char *path, size_t path_len, bool *answer);
 
 /* Whether it has a root: one written first or right after the prefix, as in `C:\a`, or one implied by a prefix other
-   than `C:` and `\\?\C:`. */
+   than `C:` and `\\?\C:`, as by `\\s\h`, which is not among the components. */
 TYPED_PATH_MUST_USE uint32_t typed_path_has_root(
     uint32_t dialect, const char *path, size_t path_len, bool *answer);
 
@@ -448,7 +459,8 @@ TYPED_PATH_MUST_USE uint32_t typed_path_compare(
     int32_t *order);
 
 /* What typed_path_starts_with, typed_path_equal and typed_path_compare tell of the paths in lower case
-   (typed_path_to_ascii_lowercase). A volume of Windows ignores the case of more letters than those of ASCII. */
+   (typed_path_to_ascii_lowercase), so a map without regard to case hashes and compares these. A volume of Windows
+   ignores the case of more letters than those of ASCII. */
 TYPED_PATH_MUST_USE uint32_t typed_path_starts_with_ignore_ascii_case(
     uint32_t dialect, const char *path, size_t path_len, const char *base, size_t base_len, bool *answer);
 TYPED_PATH_MUST_USE uint32_t typed_path_equal_ignore_ascii_case(
@@ -476,8 +488,8 @@ TYPED_PATH_MUST_USE uint32_t typed_path_hash(
 TYPED_PATH_MUST_USE uint32_t typed_path_hash_keyed(
     uint32_t dialect, uint64_t key0, uint64_t key1, const char *path, size_t path_len, uint64_t *hash);
 
-/* Puts the text of a status, or of a kind of component, in English. TYPED_PATH_STATUS_NONE if the number is
-   none; then the buffer and `*len` are unchanged. TYPED_PATH_TEXT_BOUND. */
+/* Puts the text of a status, or of a kind of component, in English; the texts may change.
+   TYPED_PATH_STATUS_NONE if the number is none; then the buffer and `*len` are unchanged. TYPED_PATH_TEXT_BOUND. */
 TYPED_PATH_MUST_USE uint32_t typed_path_status_text(uint32_t status, char *out, size_t out_size, size_t *len);
 TYPED_PATH_MUST_USE uint32_t typed_path_kind_text(uint32_t kind, char *out, size_t out_size, size_t *len);
 

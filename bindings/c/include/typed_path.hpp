@@ -7,6 +7,9 @@
 //     std::string target = folder.join_checked("a/b").value();          // throws typed_path::error if it is refused
 //     if (auto made = folder.join_checked(name)) use(*made);            // or asks; made.status() says why it is refused
 //
+// The text has to outlive the path, so what a call makes is kept as a std::string: `unix_path p = folder.join(name);`
+// dangles, and so does a path of a temporary std::filesystem::path.
+//
 // Paths and names come in as what a std::string_view can be made of. A path that is made is a std::string, a part
 // of a path a std::optional<std::string_view> into its text. If an allocation fails, std::bad_alloc is thrown.
 // Without exceptions the program ends there, and where `value` would throw. Parts, components, questions and
@@ -136,14 +139,14 @@ std::string made_by(std::size_t bound, Put put) {
 
 }  // namespace detail
 
-/// Returns what a status says, in English.
+/// Returns what a status says, in English; nothing for a number that is no status.
 inline std::string to_string(status of) {
     return detail::made_by(TYPED_PATH_TEXT_BOUND, [=](char *out, std::size_t size, std::size_t *len) {
         return typed_path_status_text(static_cast<std::uint32_t>(of), out, size, len);
     });
 }
 
-/// Returns what a kind of component is called, in English.
+/// Returns what a kind of component is called, in English; nothing for a number that is no kind.
 inline std::string to_string(kind of) {
     return detail::made_by(TYPED_PATH_TEXT_BOUND, [=](char *out, std::size_t size, std::size_t *len) {
         return typed_path_kind_text(static_cast<std::uint32_t>(of), out, size, len);
@@ -187,7 +190,7 @@ public:
     const T &value() const & { return checked(), *made_; }
     T &value() & { return checked(), *made_; }
     T &&value() && { return checked(), *std::move(made_); }
-    /// What was made, if it is known that something was.
+    /// What was made. If nothing was, the behaviour is undefined: ask first, or take `value`.
     const T &operator*() const & noexcept { return *made_; }
     T &operator*() & noexcept { return *made_; }
     T &&operator*() && noexcept { return *std::move(made_); }
@@ -333,7 +336,7 @@ private:
 };
 
 /// A path in a dialect: a view of its text, which has to outlive it. It allocates nothing, and is passed by
-/// value.
+/// value. A map with such keys holds no texts: see `path_hash`.
 template <dialect D>
 class basic_path_view {
 public:
@@ -422,22 +425,25 @@ public:
         auto led = asked<typed_path_relative_to>(TYPED_PATH_RELATIVE_BOUND(text_.size(), base.text_.size()), base);
         return led ? std::optional<std::string>(*std::move(led)) : std::nullopt;
     }
-    /// Returns the path as it is written in the dialect `to`: a copy if that is its own.
+    /// Returns the path as it is written in the dialect `to`: a copy if that is its own. Else a root replaces the
+    /// prefix before it: `C:\a` and `\\s\h\a` of Windows are `/a` of Unix, and `C:a` is `C:/a`.
     [[nodiscard]] std::string convert(dialect to) const {
         return made<typed_path_convert>(TYPED_PATH_CONVERT_BOUND(text_.size()), to);
     }
-    /// Returns the path as it is written in the dialect `to` by checked pushes, unless a component offends there.
+    /// Returns the path as it is written in the dialect `to` by checked pushes of its names and drives, unless one of
+    /// these offends there. This is no check of where the path leads: its own `..` and root are accepted. For a name
+    /// from outside use `join_checked`.
     result<std::string> convert_checked(dialect to) const {
         return asked<typed_path_convert_checked>(TYPED_PATH_CONVERT_BOUND(text_.size()), to);
     }
     /// Returns the normal path of the path if it is absolute, else that of the Unix path `directory`, written in
     /// this path's dialect, with the path pushed onto it; `ambiguous` if the path is absolute neither alone nor
-    /// after the directory.
+    /// after the directory, as a Windows path that is not absolute is after `/srv`.
     result<std::string> absolutize(basic_path_view<dialect::Unix> directory) const {
         return asked<typed_path_absolutize>(TYPED_PATH_JOIN_BOUND(text_.size(), directory.text().size()),
                                             directory.text());
     }
-    /// Returns what `absolutize` does, with a directory of either dialect.
+    /// Returns what `absolutize` does, with a directory of either dialect: a Windows path takes one of Windows.
     template <dialect E>
     result<std::string> absolutize_from(basic_path_view<E> directory) const {
         const std::string_view from = directory.text();
@@ -457,7 +463,8 @@ public:
 
     // Parts, which lie in the text of the path.
 
-    /// The path without its last component, if something is above that.
+    /// The path without its last component: nothing for an empty path, one whose last component is the root, and a
+    /// prefix alone but `C:`. That of `a` and `C:` is an empty text.
     [[nodiscard]] std::optional<std::string_view> parent() const noexcept { return part<typed_path_parent>(); }
     /// The last component, if that is a name.
     [[nodiscard]] std::optional<std::string_view> file_name() const noexcept { return part<typed_path_file_name>(); }
@@ -467,7 +474,7 @@ public:
     [[nodiscard]] std::optional<std::string_view> file_prefix() const noexcept {
         return part<typed_path_file_prefix>();
     }
-    /// What follows the last dot of the file name, if that has a dot other than one at its start.
+    /// What follows the last dot of the file name, if that has a dot other than one at its start; empty of `a.`.
     [[nodiscard]] std::optional<std::string_view> extension() const noexcept { return part<typed_path_extension>(); }
     /// What is left of the path after `base`, if it begins with the components of that.
     [[nodiscard]] std::optional<std::string_view> strip_prefix(basic_path_view base) const noexcept {
@@ -517,7 +524,7 @@ public:
     /// Whether it is absolute; on Windows `C:\a` and `\\s\h` are, and `C:a`, `\a`, `\\s` and `\\.\COM1` are not.
     [[nodiscard]] bool is_absolute() const noexcept { return is<typed_path_is_absolute>(); }
     /// Whether it has a root: one written first or right after the prefix, as in `C:\a`, or one implied by a prefix
-    /// other than `C:` and `\\?\C:`.
+    /// other than `C:` and `\\?\C:`, which is not among the components.
     [[nodiscard]] bool has_root() const noexcept { return is<typed_path_has_root>(); }
     /// Whether the dialect allows every name of the path.
     [[nodiscard]] bool is_valid() const noexcept { return is<typed_path_is_valid>(); }
@@ -548,7 +555,8 @@ public:
 
     /// Whether both paths have the same components.
     [[nodiscard]] bool equals(basic_path_view other) const noexcept { return is<typed_path_equal>(other); }
-    /// Whether both paths have the same components in lower case, in ASCII letters.
+    /// Whether both paths have the same components in lower case, in ASCII letters. A map without regard to case
+    /// hashes and compares what `to_ascii_lowercase` returns.
     [[nodiscard]] bool equals_ignore_ascii_case(basic_path_view other) const noexcept {
         return is<typed_path_equal_ignore_ascii_case>(other);
     }
@@ -696,7 +704,8 @@ inline const std::pair<std::uint64_t, std::uint64_t> &process_key() {
 }  // namespace detail
 
 /// The hash of std::hash, for maps whose keys are texts that are read as paths of a dialect. Names that strangers
-/// choose collide by chance alone, since its key is drawn at random once in a process.
+/// choose collide by chance alone, since its key is drawn at random once in a process. A std::string_view is found in
+/// a std::unordered_map from C++20 on, in a std::map by `path_less` in C++17 too.
 template <dialect D>
 struct path_hash {
     using is_transparent = void;
