@@ -150,11 +150,6 @@ fn absolute_paths(rt: HostRuntime) -> Result<(), Fail> {
         return Err(Fail::new("it is refused"));
     };
     assert_eq!(rt; absolute.as_bytes(), b"/home/u/b".as_slice());
-    let work = Utf8TypedPath::windows(r"C:\work");
-    let Ok(absolute) = Utf8TypedPath::windows("a").absolutize_from(alloc, work) else {
-        return Err(Fail::new("it is refused"));
-    };
-    assert_eq!(rt; absolute.as_str(), r"C:\work\a");
     Ok(())
 }
 
