@@ -158,17 +158,7 @@ pub fn absolutizes_as<T: Encoding>(
     path: &[u8],
     wanted: Option<&[u8]>,
 ) -> bool {
-    is_absolute_as(
-        Path::<T>::new(path).absolutize(alloc, PlatformPath::new(directory)),
-        wanted,
-    )
-}
-
-/// Whether a path was made absolute as `wanted`, or is ambiguous if nothing is wanted.
-fn is_absolute_as<T: Encoding>(
-    answer: Result<PathBuf<T>, AbsolutizeError>,
-    wanted: Option<&[u8]>,
-) -> bool {
+    let answer = Path::<T>::new(path).absolutize(alloc, PlatformPath::new(directory));
     match (answer, wanted) {
         (Ok(path), Some(wanted)) => path.as_path().as_bytes() == wanted,
         (Err(refusal), None) => refusal == AbsolutizeError::Ambiguous,
@@ -196,19 +186,5 @@ fn absolute_paths(rt: HostRuntime) -> Result<(), Fail> {
     for &(path, wanted) in WINDOWS {
         assert!(rt; absolutizes_as::<WindowsEncoding>(rt.alloc(), b"/home/u", path, wanted));
     }
-    const FROM_WINDOWS: &[(&[u8], &[u8], Option<&[u8]>)] = &[
-        (br"C:\work", br"a\..\b", Some(br"C:\work\b")),
-        (br"C:\work", br"\a", Some(br"C:\a")),
-        (br"C:\work", b"D:a", None),
-        (br"\\?\C:\work", b"../a", Some(br"\\?\C:\a")),
-        (b"C:work", b"a", None),
-    ];
-    for &(directory, path, wanted) in FROM_WINDOWS {
-        let directory = WindowsPath::new(directory);
-        let answer = WindowsPath::new(path).absolutize_from(rt.alloc(), directory);
-        assert!(rt; is_absolute_as(answer, wanted));
-    }
-    let answer = UnixPath::new(b"a").absolutize_from(rt.alloc(), WindowsPath::new(br"C:\work"));
-    assert!(rt; is_absolute_as(answer, Some(b"/work/a")));
     Ok(())
 }
