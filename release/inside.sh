@@ -35,8 +35,7 @@ is_as_before() {
     diff "$room/before" "$room/after"
 }
 is_without_kit() {
-    ! command -v rt && ! find / -xdev -name 'rattle*' -not -path '/proc/*' | grep . &&
-        ! (exec 3<> /dev/tcp/deb.debian.org/80)
+    ! command -v rt && ! (exec 3<> /dev/tcp/deb.debian.org/80)
 }
 
 # The line of the README that has this, as its reader types it, who is root here.

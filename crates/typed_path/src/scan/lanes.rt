@@ -16,8 +16,7 @@ ghost use Rattle.typed_path.specs.scan.{IsMask, TellsWhether, is_one_of, stands_
 
 use std::simd::prelude::*;
 
-/// Returns the mask of the bytes in `text[at..at + N]` that equal `byte`: bit `i` is that of
-/// `text[at + i]`.
+/// Returns the mask of the bytes in `text[at..at + N]` that equal `byte`, bit `i` for `at + i`.
 #[inline(always)]
 pub fn marks_of<const N: usize>(text: &[u8], at: usize, byte: u8) -> u64
     requires lanes { (0 < N) × (N ≤ 64) }
@@ -29,8 +28,7 @@ pub fn marks_of<const N: usize>(text: &[u8], at: usize, byte: u8) -> u64
         .to_bitmask()
 }
 
-/// Returns the mask of the bytes in `text[at..at + N]` that are in `pair`: bit `i` is that of
-/// `text[at + i]`.
+/// Returns the mask of the bytes in `text[at..at + N]` that are in `pair`, bit `i` for `at + i`.
 #[inline(always)]
 pub fn marks_at<const N: usize>(text: &[u8], at: usize, pair: (u8, u8)) -> u64
     requires lanes { (0 < N) × (N ≤ 64) }
@@ -116,8 +114,7 @@ pub fn first_marked<const N: usize>(marks: u64, at: usize) -> usize
     at + lowest(marks)
 }
 
-/// Returns the index of the first byte in `text[at..at + N]` that is in `pair`, or `at + N` if none
-/// is.
+/// Returns the index of the first byte in `text[at..at + N]` that is in `pair`, or else `at + N`.
 #[inline(always)]
 fn first_in_block<const N: usize>(text: &[u8], at: usize, pair: (u8, u8)) -> usize
     requires lanes { (0 < N) × (N ≤ 64) }
@@ -127,8 +124,7 @@ fn first_in_block<const N: usize>(text: &[u8], at: usize, pair: (u8, u8)) -> usi
     first_marked::<N>(marks_at::<N>(text, at, pair), at)
 }
 
-/// Returns the index just after the last byte in `text[at..at + N]` that is in `pair`, or `at` if
-/// none is.
+/// Returns the index after the last byte in `text[at..at + N]` that is in `pair`, or else `at`.
 #[inline(always)]
 fn last_in_block<const N: usize>(text: &[u8], at: usize, pair: (u8, u8)) -> usize
     requires lanes { (0 < N) × (N ≤ 64) }
@@ -236,8 +232,7 @@ fn last_by_block<const N: usize>(text: &[u8], from: usize, to: usize, pair: (u8,
     last_by_one(text, from, found, pair)
 }
 
-/// Returns the index just after the last byte in `text[from..to]` that is in `pair`, or `from` if
-/// none is.
+/// Returns the index after the last byte in `text[from..to]` that is in `pair`, or else `from`.
 #[inline(always)]
 pub fn last_between(text: &[u8], from: usize, to: usize, pair: (u8, u8)) -> usize
     requires ordered { from ≤ to }
@@ -467,8 +462,7 @@ pub fn begins_otherwise<const N: usize>(beginning: &[u8], text: &[u8]) -> bool
         | differs_in_block::<N, false>(beginning, text, last)
 }
 
-/// Returns the mask of the bytes in `text[at..at + N]` that are NUL, one of `:?*"><|`, or in
-/// `pair`.
+/// Returns the mask of the bytes in `text[at..at + N]` that are NUL, in `:?*"><|`, or in `pair`.
 #[inline(always)]
 fn forbidden_at<const N: usize>(text: &[u8], at: usize, pair: (u8, u8)) -> u64
     requires lanes { (0 < N) × (N ≤ 64) }
@@ -511,8 +505,7 @@ fn at_low_bits(table: u8x32, block: u8x32) -> u8x32
     table.swizzle_dyn_within::<16>(block & u8x32::splat(15))
 }
 
-/// Returns the mask of the bytes in `text[at..at + 32]` that are NUL, one of `:?*"><|`, or in
-/// `pair`.
+/// Returns the mask of the bytes in `text[at..at + 32]` that are NUL, in `:?*"><|`, or in `pair`.
 #[inline(always)]
 fn forbidden_in_32_at(text: &[u8], at: usize, pair: (u8, u8)) -> u64
     requires { at + 32 ≤ length text.now }
@@ -735,8 +728,7 @@ fn nul_or_dot_pair_at<const N: usize>(text: &[u8], at: usize) -> u64
         | (marks_of::<N>(text, at, b'.') & marks_of::<N>(text, at + 1, b'.'))
 }
 
-/// Whether a byte in `text[at..at + N]` is NUL, or a dot right before another. Reads one byte past
-/// the block.
+/// Whether a byte in `text[at..at + N]` is NUL, or a dot before another. Reads one byte more.
 #[inline(always)]
 fn has_nul_or_dot_pair_in_block<const N: usize>(text: &[u8], at: usize) -> bool
     requires lanes { (0 < N) × (N ≤ 64) }

@@ -119,8 +119,7 @@ impl<'a, T: Utf8Encoding> Utf8Path<'a, T> {
         Utf8Path { path }
     }
 
-    /// Returns the path of text that has the bytes of `path`, which are UTF-8; `None` if there is
-    /// no path.
+    /// Returns the path of text with the bytes of `path`, which are UTF-8; `None` if there is none.
     #[inline(always)]
     pub(super) fn of_option(path: Option<Path<'a, T::Bytes>>) -> Option<Utf8Path<'a, T>>
         requires { is_text_option (option_map path_bytes path) ≡ true }
@@ -686,12 +685,7 @@ impl<'a, T: Utf8Encoding> Utf8Path<'a, T> {
         owned!(absolute)
     }
 
-    /// As [`Utf8Path::absolutize`], from a directory of any encoding.
-    ///
-    /// # Errors
-    ///
-    /// `Ambiguous` if the path is absolute neither by itself nor after the directory. `OutOfMemory`
-    /// if allocation fails.
+    /// As [`Utf8Path::absolutize`], from a directory of any encoding, and refused as that is.
     pub fn absolutize_from<U: Utf8Encoding>(
         self,
         alloc: Global,
