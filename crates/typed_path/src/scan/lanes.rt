@@ -69,8 +69,7 @@ fn highest(mask: u64) -> usize
     mask.ilog2() as usize
 }
 
-/// Returns the index of the first byte in `text[from..to]` that is in `pair`, or `to` if none is,
-/// byte by byte.
+/// Returns the index of the first byte in `text[from..to]` in `pair`, or else `to`, byte by byte.
 #[inline(always)]
 fn first_by_one(text: &[u8], from: usize, to: usize, pair: (u8, u8)) -> usize
     requires ordered { from ≤ to }
@@ -99,8 +98,7 @@ fn last_by_one(text: &[u8], from: usize, to: usize, pair: (u8, u8)) -> usize
     at
 }
 
-/// Returns `at` plus the index of the lowest set bit of `marks`, the mask of the block at `at`, or
-/// `at + N` if no bit is set.
+/// Returns the first index that `marks`, the mask of the block at `at`, has, or else `at + N`.
 #[inline(always)]
 pub fn first_marked<const N: usize>(marks: u64, at: usize) -> usize
     requires in_range { at + N < 2 ^ 64 }
@@ -301,8 +299,7 @@ fn differences_at<const N: usize, const LOWER: bool>(text: &[u8], other: &[u8], 
         .to_bitmask()
 }
 
-/// Whether a byte in `text[at..at + N]` differs from that of `other` at the same index; in ASCII
-/// lower case if `LOWER`.
+/// Whether `text` and `other` differ in `at..at + N`; in ASCII lower case if `LOWER`.
 #[inline(always)]
 fn differs_in_block<const N: usize, const LOWER: bool>(text: &[u8], other: &[u8], at: usize) -> bool
     requires lanes { (0 < N) × (N ≤ 64) }
@@ -313,8 +310,7 @@ fn differs_in_block<const N: usize, const LOWER: bool>(text: &[u8], other: &[u8]
     differences_at::<N, LOWER>(text, other, at) != 0
 }
 
-/// Returns the index of the first difference in `at..at + N`, or `at + N` if there is none; in
-/// ASCII lower case if `LOWER`.
+/// Returns the first difference in `at..at + N`, or else `at + N`; in lower case if `LOWER`.
 #[inline(always)]
 fn first_difference_in_block<const N: usize, const LOWER: bool>(
     text: &[u8],
@@ -382,8 +378,7 @@ fn is_same_byte<const LOWER: bool>(byte: u8, other: u8) -> bool
     }
 }
 
-/// Returns the index of the first difference in `..to`, or `to` if there is none, byte by byte; in
-/// ASCII lower case if `LOWER`.
+/// Returns the first difference in `..to`, or else `to`, byte by byte; in lower case if `LOWER`.
 #[inline(always)]
 fn first_difference_by_one<const LOWER: bool>(text: &[u8], other: &[u8], to: usize) -> usize
     requires in_text { to ≤ length text.now }
@@ -439,8 +434,7 @@ pub fn first_difference(text: &[u8], other: &[u8]) -> usize
     first_place_of_difference::<false>(text, other)
 }
 
-/// Returns the index of the first difference in ASCII lower case, or the length of the shorter
-/// slice if it has none.
+/// Returns the first difference in ASCII lower case, or else the length of the shorter slice.
 pub fn first_difference_in_lower_case(text: &[u8], other: &[u8]) -> usize
     ensures { PartAt (str_to_ascii_lowercase text.now) (str_to_ascii_lowercase other.now) result }
 {
@@ -495,8 +489,7 @@ const ALSO_FORBIDDEN: [u8; 32] = [
     b'|', 0, 0, 0,
 ];
 
-/// Returns for each byte of `block` the entry of `table` at its low four bits. The 16 entries of
-/// `table` stand twice.
+/// Returns for each byte of `block` the entry of `table`, whose 16 stand twice, at its low 4 bits.
 #[inline(always)]
 fn at_low_bits(table: u8x32, block: u8x32) -> u8x32
     requires twice { drop 16 table ≡ take 16 table }
@@ -578,8 +571,7 @@ fn has_forbidden_by_one(text: &[u8], pair: (u8, u8)) -> bool
     forbidden
 }
 
-/// Whether `byte` is forbidden: no Windows name may have it, and it separates in no path. These are
-/// NUL and `:?*"><|`.
+/// Whether `byte` is NUL or in `:?*"><|`: no Windows name may have it, and it never separates.
 #[inline(always)]
 fn is_forbidden(byte: u8) -> bool
     ensures { result ≡ is_forbidden byte }
@@ -657,8 +649,7 @@ fn has_control_in_block<const N: usize>(text: &[u8], at: usize) -> bool
     controls_at::<N>(text, at) != 0
 }
 
-/// Whether `text` has a control byte, in `0..32` or 127, by its first and its last N bytes. Its
-/// length is in `N..=2 * N`.
+/// Whether `text`, of `N..=2 * N` bytes, has a control byte, in `0..32` or 127.
 #[inline(always)]
 fn has_control_in_two<const N: usize>(text: &[u8]) -> bool
     requires lanes { (0 < N) × (N ≤ 64) }
@@ -716,8 +707,7 @@ pub fn has_control(text: &[u8]) -> bool
     has_control_by_one(text)
 }
 
-/// Returns the mask of the bytes in `text[at..at + N]` that are NUL, or a dot right before another.
-/// Reads one byte past the block.
+/// Returns the mask of the NULs and dots before another in `text[at..at + N]`. Reads one byte more.
 #[inline(always)]
 fn nul_or_dot_pair_at<const N: usize>(text: &[u8], at: usize) -> u64
     requires lanes { (0 < N) × (N ≤ 64) }
@@ -738,8 +728,7 @@ fn has_nul_or_dot_pair_in_block<const N: usize>(text: &[u8], at: usize) -> bool
     nul_or_dot_pair_at::<N>(text, at) != 0
 }
 
-/// Whether a byte of `text[..to]` is NUL, or a dot right before another, by two blocks of N bytes.
-/// `to` is in `N..=2 * N`.
+/// Whether a byte of `text[..to]` is NUL, or a dot before another. `to` is in `N..=2 * N`.
 #[inline(always)]
 fn has_nul_or_dot_pair_in_two<const N: usize>(text: &[u8], to: usize) -> bool
     requires lanes { (0 < N) × (N ≤ 64) }
