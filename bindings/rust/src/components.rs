@@ -1,6 +1,6 @@
 //! What the iterators over components share, and what the components do.
 //!
-//! An iterator is a text and the three numbers of a reading, at which each step of the library is taken.
+//! An iterator is the reading of a path, of which each step is taken by the library.
 
 /// The iterator of one dialect, over bytes or text.
 macro_rules! reading {
@@ -20,14 +20,13 @@ macro_rules! reading {
         /// ```
         #[derive(Clone)]
         pub struct $Name<'a> {
-            text: &'a $Slice,
-            reading: $crate::ffi::Reading,
+            left: $crate::ffi::Left<'a, $Slice>,
         }
 
         impl<'a> $Name<'a> {
             #[inline]
             pub(crate) fn new(text: &'a $Slice) -> Self {
-                $Name { text, reading: $crate::ffi::Reading::new(text.len()) }
+                $Name { left: $crate::ffi::Left::new(text) }
             }
 
             /// The path of the slice left.
@@ -46,8 +45,9 @@ macro_rules! reading {
 
             /// The first component left, which is not taken.
             #[inline]
-            fn first(&self) -> Option<$crate::ffi::Placed> {
-                $crate::ffi::next($dialect, self.text.as_ref(), &mut self.reading.clone())
+            fn first(&self) -> Option<$crate::ffi::Taken<'a, $Slice>> {
+                let mut left = self.left;
+                left.next($dialect)
             }
         }
 
@@ -58,15 +58,15 @@ macro_rules! reading {
 
             #[inline]
             fn $as_slice(&self) -> &'a $Slice {
-                &self.text[self.reading.left()]
+                self.left.slice()
             }
 
             fn is_absolute(&self) -> bool {
-                self.reading.has_its_front() && $crate::ffi::is_absolute($dialect, self.as_ref())
+                self.left.has_its_front() && $crate::ffi::is_absolute($dialect, self.as_ref())
             }
 
             fn has_root(&self) -> bool {
-                if self.reading.has_its_front() {
+                if self.left.has_its_front() {
                     return $crate::ffi::has_root($dialect, self.as_ref());
                 }
                 // No prefix is left, so the root is written or there is none.
@@ -99,16 +99,16 @@ macro_rules! reading {
 
             #[inline]
             fn next(&mut self) -> Option<$Item<'a>> {
-                let placed = $crate::ffi::next($dialect, self.text.as_ref(), &mut self.reading)?;
-                Some($Item::placed(self.text, placed))
+                let taken = self.left.next($dialect)?;
+                Some($Item::taken(self.left.path(), taken))
             }
         }
 
         impl DoubleEndedIterator for $Name<'_> {
             #[inline]
             fn next_back(&mut self) -> Option<Self::Item> {
-                let placed = $crate::ffi::next_back($dialect, self.text.as_ref(), &mut self.reading)?;
-                Some($Item::placed(self.text, placed))
+                let taken = self.left.next_back($dialect)?;
+                Some($Item::taken(self.left.path(), taken))
             }
         }
 

@@ -61,52 +61,132 @@ impl Span {
     }
 }
 
-/// A component: its place in the path, and the number of its kind.
 #[repr(C)]
-#[derive(Clone, Copy)]
-pub(crate) struct Placed {
+struct Placed {
     start: usize,
     length: usize,
-    pub kind: u32,
+    kind: u32,
 }
 
-impl Placed {
-    const NONE: Placed = Placed { start: 0, length: 0, kind: 0 };
-
-    #[inline]
-    pub fn range(&self) -> Range<usize> {
-        self.start..self.start + self.length
-    }
-}
-
-/// What is left of the reading of a path, as three numbers that only the steps change.
 #[repr(C)]
 #[derive(Clone, Copy)]
-pub(crate) struct Reading {
+struct Reading {
     from: usize,
     to: usize,
     stage: u32,
 }
 
-impl Reading {
-    /// That of a path of so many bytes, of which nothing was taken.
+/// What paths are made of: bytes, or text.
+pub(crate) trait Slice: AsRef<[u8]> {
+    /// The part in a range.
+    ///
+    /// # Safety
+    ///
+    /// The range lies in this, and in text begins and ends between characters.
+    unsafe fn part(&self, range: Range<usize>) -> &Self;
+}
+
+impl Slice for [u8] {
     #[inline]
-    pub fn new(length: usize) -> Self {
-        Reading { from: 0, to: length, stage: 0 }
+    unsafe fn part(&self, range: Range<usize>) -> &Self {
+        // SAFETY: the caller's.
+        unsafe { self.get_unchecked(range) }
+    }
+}
+
+impl Slice for str {
+    #[inline]
+    unsafe fn part(&self, range: Range<usize>) -> &Self {
+        // SAFETY: the caller's.
+        unsafe { self.get_unchecked(range) }
+    }
+}
+
+/// A component: the number of its kind, and how it is written.
+pub(crate) struct Taken<'a, S: ?Sized> {
+    pub kind: u32,
+    pub text: &'a S,
+}
+
+/// What is left of a path whose components are taken from both ends. Only the steps of the library change the numbers
+/// of the reading.
+pub(crate) struct Left<'a, S: ?Sized> {
+    path: &'a S,
+    reading: Reading,
+}
+
+impl<S: ?Sized> Clone for Left<'_, S> {
+    #[inline]
+    fn clone(&self) -> Self {
+        *self
+    }
+}
+
+impl<S: ?Sized> Copy for Left<'_, S> {}
+
+impl<'a, S: Slice + ?Sized> Left<'a, S> {
+    /// That of a path of which nothing was taken.
+    #[inline]
+    pub fn new(path: &'a S) -> Self {
+        Left { path, reading: Reading { from: 0, to: path.as_ref().len(), stage: 0 } }
     }
 
-    /// Where the slice left stands.
+    /// The whole path.
     #[inline]
-    pub fn left(&self) -> Range<usize> {
-        self.from..self.to
+    pub fn path(&self) -> &'a S {
+        self.path
+    }
+
+    /// The slice left.
+    #[inline]
+    pub fn slice(&self) -> &'a S {
+        // SAFETY: the numbers are those of a reading of this path, so they lie in it, in their order; and each is an
+        // end of the path or of a component, or stands beside a separator or a dot, which are of one byte.
+        unsafe { self.path.part(self.reading.from..self.reading.to) }
     }
 
     /// Whether nothing was taken from the front, so that the slice left is a path that reads as what is left.
     #[inline]
     pub fn has_its_front(&self) -> bool {
-        self.from == 0
+        self.reading.from == 0
+    }
+
+    /// Takes the first component that is left.
+    #[inline]
+    pub fn next(&mut self, dialect: u32) -> Option<Taken<'a, S>> {
+        self.step(typed_path_next, dialect)
+    }
+
+    /// Takes the last component that is left.
+    #[inline]
+    pub fn next_back(&mut self, dialect: u32) -> Option<Taken<'a, S>> {
+        self.step(typed_path_next_back, dialect)
+    }
+
+    #[inline(always)]
+    fn step(&mut self, call: Step, dialect: u32) -> Option<Taken<'a, S>> {
+        // No component is empty, so none is left of an empty slice, and no call need say so.
+        if self.reading.from == self.reading.to {
+            return None;
+        }
+        let path: &[u8] = self.path.as_ref();
+        let mut placed = MaybeUninit::uninit();
+        // SAFETY: the pointers are those of a slice, with its length, of the numbers, and of a local.
+        let status =
+            unsafe { call(dialect, path.as_ptr(), path.len(), &mut self.reading, placed.as_mut_ptr()) };
+        if status != status::DONE {
+            return None;
+        }
+        // SAFETY: a step that was done has set the component, which ends in the path; and it begins and ends where
+        // the path does, or beside a separator, which is of one byte.
+        unsafe {
+            let Placed { start, length, kind } = placed.assume_init();
+            Some(Taken { kind, text: self.path.part(start..start + length) })
+        }
     }
 }
+
+type Step = unsafe extern "C" fn(u32, Text, usize, *mut Reading, *mut Placed) -> u32;
 
 #[repr(C)]
 struct Place {
@@ -117,7 +197,7 @@ struct Place {
 type Text = *const u8;
 type Out = *mut u8;
 
-unsafe extern "C" {
+extern "C" {
     #[cfg(test)]
     fn typed_path_version() -> u32;
     fn typed_path_runs_here() -> bool;
@@ -346,28 +426,6 @@ pub(crate) fn compare_ignore_ascii_case(dialect: u32, path: &[u8], other: &[u8])
         )
     };
     order.cmp(&0)
-}
-
-/// Takes the first component that is left of a reading of a path, or the last.
-macro_rules! steps {
-    ($($name:ident = $call:ident;)*) => {$(
-        #[inline]
-        pub(crate) fn $name(dialect: u32, path: &[u8], reading: &mut Reading) -> Option<Placed> {
-            // No component is empty, so none is left of an empty slice, and no call need say so.
-            if reading.from == reading.to {
-                return None;
-            }
-            let mut component = Placed::NONE;
-            // SAFETY: the pointers are those of a slice, with its length, of the numbers, and of a local.
-            let status = unsafe { $call(dialect, path.as_ptr(), path.len(), reading, &mut component) };
-            (status == status::DONE).then_some(component)
-        }
-    )*};
-}
-
-steps! {
-    next = typed_path_next;
-    next_back = typed_path_next_back;
 }
 
 /// Where the names of the prefix stand; the second is empty where there is but one.

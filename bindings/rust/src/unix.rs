@@ -10,7 +10,7 @@ use crate::components::{
 };
 use crate::constants::unix::{CURRENT_DIR, CURRENT_DIR_STR, PARENT_DIR, PARENT_DIR_STR, SEPARATOR_STR};
 use crate::encoding::*;
-use crate::ffi::{Placed, UNIX, kind};
+use crate::ffi::{Taken, UNIX, kind};
 use crate::{Path, PathBuf, Utf8Path, Utf8PathBuf};
 
 /// A path of Unix, borrowed.
@@ -82,12 +82,12 @@ macro_rules! unix_component {
 
         impl<'a> $Name<'a> {
             #[inline]
-            pub(crate) fn placed(text: &'a $Slice, placed: Placed) -> Self {
-                match placed.kind {
+            pub(crate) fn taken(_: &'a $Slice, taken: Taken<'a, $Slice>) -> Self {
+                match taken.kind {
                     kind::ROOT => $Name::RootDir,
                     kind::CURRENT => $Name::CurDir,
                     kind::PARENT => $Name::ParentDir,
-                    _ => $Name::Normal(&text[placed.range()]),
+                    _ => $Name::Normal(taken.text),
                 }
             }
         }

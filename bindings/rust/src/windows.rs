@@ -10,7 +10,7 @@ use crate::components::{
 };
 use crate::constants::windows::{CURRENT_DIR, CURRENT_DIR_STR, PARENT_DIR, PARENT_DIR_STR, SEPARATOR_STR};
 use crate::encoding::*;
-use crate::ffi::{self, Placed, WINDOWS, kind};
+use crate::ffi::{self, Taken, WINDOWS, kind};
 use crate::{ParseError, Path, PathBuf, Utf8Path, Utf8PathBuf};
 
 /// A path of Windows, borrowed.
@@ -88,13 +88,13 @@ macro_rules! windows_component {
 
         impl<'a> $Name<'a> {
             #[inline]
-            pub(crate) fn placed(text: &'a $Slice, placed: Placed) -> Self {
-                match placed.kind {
-                    kind::NAME => $Name::Normal(&text[placed.range()]),
+            pub(crate) fn taken(path: &'a $Slice, taken: Taken<'a, $Slice>) -> Self {
+                match taken.kind {
+                    kind::NAME => $Name::Normal(taken.text),
                     kind::ROOT => $Name::RootDir,
                     kind::CURRENT => $Name::CurDir,
                     kind::PARENT => $Name::ParentDir,
-                    _ => $Name::Prefix($PrefixComponent::placed(text, placed)),
+                    _ => $Name::Prefix($PrefixComponent::taken(path, taken)),
                 }
             }
 
@@ -155,8 +155,8 @@ macro_rules! windows_component {
         impl<'a> $PrefixComponent<'a> {
             /// The prefix of a path, where the reading of the path told that one stands.
             #[cold]
-            fn placed(text: &'a $Slice, placed: Placed) -> Self {
-                $PrefixComponent { raw: &text[placed.range()], parsed: $Prefix::of_kind(text, placed.kind) }
+            fn taken(path: &'a $Slice, taken: Taken<'a, $Slice>) -> Self {
+                $PrefixComponent { raw: taken.text, parsed: $Prefix::of_kind(path, taken.kind) }
             }
 
             /// Its kind, with its names.
@@ -357,7 +357,7 @@ macro_rules! windows_component {
             /// assert_eq!(Path::new(r"C:\a").components().prefix(), PrefixComponent::try_from("C:").ok());
             /// ```
             pub fn prefix(&self) -> Option<$PrefixComponent<'_>> {
-                $Name::placed(self.text, self.first()?).prefix()
+                $Name::taken(self.left.path(), self.first()?).prefix()
             }
 
             /// The kind of the prefix, if one is left.
@@ -405,9 +405,8 @@ macro_rules! windows_component {
             /// assert!(!Path::new(r"\\s\h").components().has_physical_root());
             /// ```
             pub fn has_physical_root(&self) -> bool {
-                let mut reading = self.reading;
-                let mut next_kind =
-                    || ffi::next(WINDOWS, self.text.as_ref(), &mut reading).map(|component| component.kind);
+                let mut left = self.left;
+                let mut next_kind = || left.next(WINDOWS).map(|component| component.kind);
                 match next_kind() {
                     Some(first) if first >= kind::VERBATIM => next_kind() == Some(kind::ROOT),
                     first => first == Some(kind::ROOT),

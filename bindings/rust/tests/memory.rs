@@ -1,5 +1,8 @@
 //! Memory that is refused, to this crate and to the library behind it: both ask the `malloc` and `realloc` below.
 
+// The crate takes older compilers than its tests.
+#![allow(clippy::incompatible_msrv)]
+
 use std::cell::Cell;
 use std::ffi::{CStr, c_char, c_void};
 use std::mem::transmute;

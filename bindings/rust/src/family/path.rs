@@ -1061,7 +1061,7 @@ impl<T: Encoding> Path<T> {
         let directory = crate::utils::current_dir()?;
         match or_end(ffi::absolutize(T::DIALECT, self.all(), directory.all())) {
             Some(absolute) => Ok(PathBuf::own(absolute)),
-            None => Err(std::io::Error::other("path is ambiguous")),
+            None => Err(std::io::Error::new(std::io::ErrorKind::Other, "path is ambiguous")),
         }
     }
 }
