@@ -17,6 +17,7 @@ impl<'a, T: Encoding> Path<'a, T> {
     ///
     /// The bytes of no path begin with those of another that is not equal, so other values may be
     /// fed after them.
+    #[tactic(auto, using(crate::proofs::lemmas::order::KeyBytes::key_bytes_size))]
     pub fn put_key(self, out: &mut [u8]) -> usize
         ensures length { result ≡ length (key_bytes T.dialect (path_bytes self.entry)) }
         ensures put { length (key_bytes T.dialect (path_bytes self.entry)) ≤ length out.old → out.new
@@ -26,6 +27,9 @@ impl<'a, T: Encoding> Path<'a, T> {
             → out.new ≡ out.old }
     {
         let path = self.as_bytes();
+        if path.len() < out.len() / 2 {
+            return put_words::<T>(path, out);
+        }
         let needed = put_words::<T>(path, &mut []);
         if needed <= out.len() {
             put_words::<T>(path, out);

@@ -3,7 +3,7 @@
 
 ghost use Rattle.std.specs.Prelude.{◌≡◌, List, ℕ, IsTrue, fold, option_map};
 ghost use Rattle.std.proofs.Common.{ap};
-ghost use Rattle.typed_path.specs.order.{key_words, key_words_before, kind_key_words, kinds_key_words, length_prefixed, length_words, same-kinds};
+ghost use Rattle.typed_path.specs.order.{key_words, key_words_before, kind_key_words, kinds_key_words, length_prefixed, length_words, prefix_key_words, same-kinds};
 ghost use Rattle.typed_path.specs.views.PieceViews.{prefix_view, step_part};
 ghost use Rattle.typed_path.specs.views.PathViews.{path_bytes};
 
@@ -105,36 +105,45 @@ fn feed_key<T: Encoding, H: Hasher>(path: &[u8], state: &mut H)
     state.write_u8(0);
 }
 
-/// Feeds the number of the prefix's kind, and its names or its letter; nothing without a prefix.
+/// Feeds the prefix of a path to a hasher, as [`feed_kind_and_names`] does; nothing without one.
+#[inline(always)]
 fn feed_prefix<H: Hasher>(prefix: Option<WindowsPrefix<'_>>, state: &mut H)
     ensures { state.new
         ≡ fold H.write state.old (key_words_before (option_map prefix_view prefix.entry)) }
 {
+    if let Some(prefix) = prefix {
+        feed_kind_and_names(prefix, state);
+    }
+}
+
+/// Feeds the number of a prefix's kind, and its names or its letter.
+fn feed_kind_and_names<H: Hasher>(prefix: WindowsPrefix<'_>, state: &mut H)
+    ensures { state.new ≡ fold H.write state.old (prefix_key_words (prefix_view prefix.entry)) }
+{
     match prefix {
-        None => {}
-        Some(WindowsPrefix::Verbatim(name)) => {
+        WindowsPrefix::Verbatim(name) => {
             state.write_u8(1);
             feed_name(name, state);
         }
-        Some(WindowsPrefix::VerbatimUNC(server, share)) => {
+        WindowsPrefix::VerbatimUNC(server, share) => {
             state.write_u8(2);
             feed_name(server, state);
             feed_name(share, state);
         }
-        Some(WindowsPrefix::VerbatimDisk(letter)) => {
+        WindowsPrefix::VerbatimDisk(letter) => {
             state.write_u8(3);
             state.write_u8(letter);
         }
-        Some(WindowsPrefix::DeviceNS(name)) => {
+        WindowsPrefix::DeviceNS(name) => {
             state.write_u8(4);
             feed_name(name, state);
         }
-        Some(WindowsPrefix::UNC(server, share)) => {
+        WindowsPrefix::UNC(server, share) => {
             state.write_u8(5);
             feed_name(server, state);
             feed_name(share, state);
         }
-        Some(WindowsPrefix::Disk(letter)) => {
+        WindowsPrefix::Disk(letter) => {
             state.write_u8(6);
             state.write_u8(letter);
         }
