@@ -9,7 +9,7 @@ ghost use Rattle.typed_path_c.specs.Answers.{done};
 ghost use Rattle.typed_path_c.specs.Steps.{bad_reading, Begins, Steps, StepsIn, StepsFront, StepsBack, Told};
 
 use crate::parts::{Component, kind_number};
-use crate::status::{BAD_DIALECT, BAD_READING, DONE, NONE, of_path, path_in};
+use crate::status::{BAD_DIALECT, BAD_READING, DONE, NONE};
 use typed_path::{PlacedPiece, ReadingError, TypedPath, Unread};
 
 /// Takes the first component that is left of the reading of the path at `reading`, and moves
@@ -39,7 +39,12 @@ fn next(dialect: u32, path: &[u8], reading: &mut Unread, component: &mut Compone
         component.new result }
     ensures within { result ≡ done → component.new.start + component.new.length ≤ length path.now }
 {
-    of_path!(dialect, path => take_first(path, reading, component), BAD_DIALECT)
+    // A call for each dialect, so that each is compiled for the separators of its own.
+    match dialect {
+        0 => take_first(TypedPath::unix(path), reading, component),
+        1 => take_first(TypedPath::windows(path), reading, component),
+        _ => BAD_DIALECT,
+    }
 }
 
 /// Does what [`typed_path_next`] does, for a path in its dialect.
@@ -79,7 +84,11 @@ fn next_back(dialect: u32, path: &[u8], reading: &mut Unread, component: &mut Co
         component.new result }
     ensures within { result ≡ done → component.new.start + component.new.length ≤ length path.now }
 {
-    of_path!(dialect, path => take_last(path, reading, component), BAD_DIALECT)
+    match dialect {
+        0 => take_last(TypedPath::unix(path), reading, component),
+        1 => take_last(TypedPath::windows(path), reading, component),
+        _ => BAD_DIALECT,
+    }
 }
 
 /// Does what [`typed_path_next_back`] does, for a path in its dialect.
