@@ -55,6 +55,9 @@ has_number() {
     local number
     number=$(dpkg-query -W -f '${Version}' typath) && typath --version | grep -F "typath ${number%-*},"
 }
+has_origin() {
+    typath --version | grep -E '^commit: [0-9a-f]{40}' && typath --version | grep -E '^kit: rattle-kit-'
+}
 reads_page() {
     man "$@" 2> "$room/warned" | grep -E '^(TYPATH|TYPED_PATH)\('
 }
@@ -96,6 +99,7 @@ all_files > "$room/before"
 part "typath is installed" line ./typath_
 part "the program answers as the README says" asks_program
 part "the program has the number of its package" has_number
+part "the program names its commit and its kit" has_origin
 part "man typath" reads_page typath
 part "bash completes typath" completes
 part "the library is installed" line ./libtyped-path-dev_
@@ -113,7 +117,7 @@ part "nothing of them is left" is_as_before
 tree=$room/tree
 in_its_folder() {
     (
-        mkdir "$tree" && cd "$tree" && cp /try/typed-path-*.tar.gz . && line 'tar -xzf' && rm ./*.tar.gz &&
+        mkdir "$tree" && cd "$tree" && cp /try/typed-path-*.tar.gz . && line '-x86_64-linux.tar.gz' && rm ./*.tar.gz &&
             mv typed-path-*/* . && rmdir typed-path-* || exit 1
         export PKG_CONFIG_PATH=$tree/lib/pkgconfig LD_LIBRARY_PATH=$tree/lib PATH=$tree/bin:$PATH
         asks_program && in_c && in_c_static && in_cpp && by_cmake "-DCMAKE_PREFIX_PATH=$tree" &&
@@ -150,7 +154,8 @@ registry+=(--config 'source.debian.directory="/usr/share/cargo/registry"')
 in_rust() {
     local crate
     crate=$(basename /try/*.crate .crate)
-    tar -xzf "/try/$crate.crate" -C "$room" && mkdir -p "$room/rust/src" && cp /try/app/app.rs "$room/rust/src/main.rs" &&
+    cp "/try/$crate.crate" "$room" && (cd "$room" && line '.crate') && mkdir -p "$room/rust/src" &&
+        cp /try/app/app.rs "$room/rust/src/main.rs" &&
         printf '[package]\nname = "app"\nversion = "0.1.0"\nedition = "2021"\n[dependencies]\n%s = { path = "../%s" }\n' \
             "${crate%-[0-9]*}" "$crate" > "$room/rust/Cargo.toml" &&
         (cd "$room/rust" && cargo build --quiet --offline "${registry[@]}") && answers "$room/rust/target/debug/app"

@@ -12,6 +12,15 @@ here=$(cd "$(dirname "$0")" && pwd)
 for needed in rt cc ld objcopy; do
     command -v "$needed" > /dev/null || misused "there is no $needed"
 done
+# Writes what is known of a field over the text that `typath --version` prints of it, in as many bytes.
+note() {
+    local blank known
+    printf -v blank '%s: %-53s' "$2" 'not noted'
+    printf -v known '%s: %-53s' "$2" "$3"
+    LC_ALL=C sed -i "s/$blank/$known/" "$1"
+    [[ $("$1" --version) == *"$known"* ]] || stopped "$1 does not say its $2"
+}
+
 mkdir -p -- "${1:-$here/out}"
 dir=$(cd -- "${1:-$here/out}" && pwd)
 crates=$(cd "$here/../../crates" && pwd)
@@ -25,4 +34,7 @@ memory=$(dirname "$(readlink -f "$(command -v rt)")")/../c/liblibc_c.a
 mkdir -p "$dir/bin"
 cp "$crates/typath/out/typath" "$dir/bin/"
 commit=$(git -C "$here" describe --always --abbrev=40 --exclude='*' --dirty=' with changes' 2> /dev/null) || commit='not noted'
-echo "the commit $commit, by the kit $(rt --version)" > "$dir/built"
+kit=$(rt --version)
+echo "the commit $commit, by the kit $kit" > "$dir/built"
+note "$dir/bin/typath" commit "$commit"
+note "$dir/bin/typath" kit "$kit"

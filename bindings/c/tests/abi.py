@@ -159,9 +159,10 @@ def handed_out(number, top):
     # The crate of Rust is one that a checkout may lack.
     if (pathlib.Path(top) / rust).exists():
         yield rust, rf'^version = "{re.escape(number)}"$'
-    yield "crates/typath/src/words.rt", rf'^pub const VERSION: &str =\s+"typath {re.escape(number)},'
+    yield "crates/typath/src/words.rt", rf'^pub const VERSION: &str = "\\\ntypath {re.escape(number)},'
     yield "refusals/version", rf"^typath {re.escape(number)},"
     yield "README.md", rf"\./libtyped-path{kept}_"
+    yield "README.md", rf"typed-path-proved-{re.escape(number)}\""
     for file in ("docs/C.md", "bindings/c/tests/app/CMakeLists.txt"):
         yield file, rf"find_package\(typed_path {kept} REQUIRED\)"
 
