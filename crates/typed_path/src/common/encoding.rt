@@ -65,9 +65,9 @@ pub trait Encoding: Sized {
         state.write_usize(len);
     }
 
-    /// Checks whether a checked push accepts a path, whatever the base. An accepted path lies
-    /// within each base that it is pushed onto if the result has the prefix of that base. It always
-    /// has for the bases of which `keeps_prefix` is true.
+    /// Checks whether a checked push accepts a path, whatever the base. What an accepted path makes
+    /// of a base lies within that base if it still has the base's prefix, as it always does where
+    /// `keeps_prefix` is true of the base.
     ///
     /// # Errors
     ///

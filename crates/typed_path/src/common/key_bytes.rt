@@ -11,12 +11,12 @@ use crate::common::path::Path;
 use crate::scan::{Step, StepKind, WindowsPrefix};
 
 impl<'a, T: Encoding> Path<'a, T> {
-    /// Writes the bytes that the path's [`Key`](crate::Key) feeds a hasher, one word after the
-    /// other, to the front of `out`. Returns how many they are: at most twice those of the path,
-    /// and one. If they do not fit, nothing is written.
+    /// Writes the bytes that the path's [`Key`](crate::Key) feeds a hasher to the front of `out`,
+    /// and returns their number, also if it is more than `out` holds; then nothing is written. It
+    /// is at most `2 * n + 1` for a path of `n` bytes.
     ///
-    /// The bytes of no path begin with those of another that is not equal, so other values may be
-    /// fed after them.
+    /// Equal paths have the same bytes; of two others, the bytes of neither begin with those of the
+    /// other. So other values may be fed after them.
     #[tactic(auto, using(crate::proofs::lemmas::order::KeyBytes::key_bytes_size))]
     pub fn put_key(self, out: &mut [u8]) -> usize
         ensures length { result ≡ length (key_bytes T.dialect (path_bytes self.entry)) }

@@ -137,8 +137,8 @@ impl<'a, T: Encoding> Path<'a, T> {
         refused_for(self.unportable())
     }
 
-    /// Returns the first component for which [`Path::check_portable`] refuses the path, as it is
-    /// written, and the refusal; `None` if the path is portable.
+    /// Returns the first component that is not portable, with its bytes as in the path, and the error
+    /// of [`Path::check_portable`]; `None` if the path is portable.
     ///
     /// Of `a/nul .txt/b` it is `nul .txt` with `Device`.
     pub fn unportable(self) -> Option<(&'a [u8], PortableError)>

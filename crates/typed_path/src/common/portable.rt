@@ -45,8 +45,8 @@ pub fn piece_may_be_device(piece: Piece<'_>) -> bool
     matches!(piece.kind, PieceKind::Normal) && may_be_device(piece.text)
 }
 
-/// Returns the first of the components left that offends, as it is written, and its fault; `None`
-/// if none does.
+/// Returns the first of the components left that is not portable, with its bytes as in the path,
+/// and why; `None` if all are portable.
 pub fn first_unportable<'a, T: Encoding>(
     mut rest: Components<'a, T>,
 ) -> Option<(&'a [u8], PortableError)>
@@ -117,8 +117,8 @@ fn name_fault(name: &[u8]) -> Option<PortableError>
     }
 }
 
-/// Whether a name has neither a byte that Windows forbids in names, NUL and `/\:?*"><|`, nor a
-/// control byte, in `0..32` or 127.
+/// Whether a name has none of `/\:?*"<>|`, which Windows forbids in names, and no control byte: 0
+/// to 31, and 127.
 fn has_portable_bytes(name: &[u8]) -> bool
     ensures { result ≡ has_portable_bytes name.now }
 {

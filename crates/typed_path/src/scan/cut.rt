@@ -80,8 +80,9 @@ pub fn text_behind<'a>(beginning: &[u8], text: &'a [u8]) -> Option<&'a [u8]>
 }
 
 /// Returns the index in `text` of the first component after those of `base`, or the length if none
-/// follows. `None` leaves it open: `base` is empty, `text` begins with other bytes, or a segment
-/// spans the end of `base`. `shared` is their [`first_difference`].
+/// follows. `None` decides nothing: `base` is empty, `text` does not begin with its bytes, or its
+/// last segment goes on in `text`, as `b` of `a/b` in `a/bc`. `shared` is their
+/// [`first_difference`].
 #[inline(always)]
 pub fn base_end(text: &[u8], base: &[u8], shared: usize, separators: Separators) -> Option<usize>
     requires { PartAt text.now base.now shared }

@@ -109,7 +109,7 @@ impl TypedPathBuf {
         typed!(self, own => own.as_path())
     }
 
-    /// As [`PathBuf::push`].
+    /// Pushes `path` onto this one. See [`PathBuf::push`].
     pub fn push(&mut self, path: &[u8]) -> Result<(), AllocError>
         ensures dialect { KeepsDialect self.old self.new }
         ensures pushed { Pushes (typed_dialect self.old) (typed_owned self.old) path.now result
@@ -118,7 +118,8 @@ impl TypedPathBuf {
         each!(self, own => own.push(Path::new(path)))
     }
 
-    /// As [`PathBuf::push_checked`].
+    /// Pushes `path` onto this one, unless a component of `path` offends. See
+    /// [`PathBuf::push_checked`].
     pub fn push_checked(&mut self, path: &[u8]) -> Result<(), PathError>
         ensures dialect { KeepsDialect self.old self.new }
         ensures pushed { PushesChecked (typed_dialect self.old) (typed_owned self.old) path.now
@@ -127,7 +128,7 @@ impl TypedPathBuf {
         each!(self, own => own.push_checked(Path::new(path)))
     }
 
-    /// As [`PathBuf::pop`].
+    /// Cuts the path to its parent. See [`PathBuf::pop`].
     pub fn pop(&mut self) -> bool
         ensures dialect { KeepsDialect self.old self.new }
         ensures popped { Pops (typed_dialect self.old) (typed_owned self.old) result
@@ -136,7 +137,8 @@ impl TypedPathBuf {
         each!(self, own => own.pop())
     }
 
-    /// As [`PathBuf::set_file_name`].
+    /// Removes the file name, if there is one, and pushes `name` onto what is left. See
+    /// [`PathBuf::set_file_name`].
     pub fn set_file_name(&mut self, name: &[u8]) -> Result<(), AllocError>
         ensures dialect { KeepsDialect self.old self.new }
         ensures named { SetsFileName (typed_dialect self.old) (typed_owned self.old) name.now result
@@ -145,7 +147,8 @@ impl TypedPathBuf {
         each!(self, own => own.set_file_name(name))
     }
 
-    /// As [`PathBuf::set_extension`].
+    /// Replaces the extension of the file name, or removes it if `extension` is empty. See
+    /// [`PathBuf::set_extension`].
     pub fn set_extension(&mut self, extension: &[u8]) -> Result<bool, AllocError>
         ensures dialect { KeepsDialect self.old self.new }
         ensures extended { SetsExtension (typed_dialect self.old) (typed_owned self.old)
@@ -154,7 +157,7 @@ impl TypedPathBuf {
         each!(self, own => own.set_extension(extension))
     }
 
-    /// As [`PathBuf::add_extension`].
+    /// Appends a dot and `extension` to the file name. See [`PathBuf::add_extension`].
     pub fn add_extension(&mut self, extension: &[u8]) -> Result<bool, AllocError>
         ensures dialect { KeepsDialect self.old self.new }
         ensures extended { AddsExtension (typed_dialect self.old) (typed_owned self.old)
@@ -163,7 +166,7 @@ impl TypedPathBuf {
         each!(self, own => own.add_extension(extension))
     }
 
-    /// As [`PathBuf::clear`].
+    /// Makes the path empty. See [`PathBuf::clear`].
     pub fn clear(&mut self)
         ensures dialect { KeepsDialect self.old self.new }
         ensures cleared { Clears (typed_owned self.old) (typed_owned self.new) }
@@ -171,14 +174,15 @@ impl TypedPathBuf {
         each!(self, own => own.clear())
     }
 
-    /// As [`PathBuf::capacity`].
+    /// How many bytes the path can hold without allocating, its own included. See
+    /// [`PathBuf::capacity`].
     pub fn capacity(&self) -> usize
         ensures { result ≡ (typed_owned self.now).capacity }
     {
         each!(self, own => own.capacity())
     }
 
-    /// As [`PathBuf::reserve`].
+    /// Reserves capacity for at least `additional` bytes more. See [`PathBuf::reserve`].
     pub fn reserve(&mut self, additional: usize) -> Result<(), AllocError>
         ensures dialect { KeepsDialect self.old self.new }
         ensures reserved { Reserves (typed_owned self.old) additional result
@@ -187,7 +191,7 @@ impl TypedPathBuf {
         each!(self, own => own.reserve(additional))
     }
 
-    /// As [`PathBuf::try_reserve`].
+    /// Alias of `reserve`, which is fallible already. See [`PathBuf::try_reserve`].
     pub fn try_reserve(&mut self, additional: usize) -> Result<(), AllocError>
         ensures dialect { KeepsDialect self.old self.new }
         ensures reserved { Reserves (typed_owned self.old) additional result
@@ -196,7 +200,8 @@ impl TypedPathBuf {
         each!(self, own => own.try_reserve(additional))
     }
 
-    /// As [`PathBuf::reserve_exact`].
+    /// Reserves capacity for `additional` bytes more, and for no more than these if it has to grow.
+    /// See [`PathBuf::reserve_exact`].
     pub fn reserve_exact(&mut self, additional: usize) -> Result<(), AllocError>
         ensures dialect { KeepsDialect self.old self.new }
         ensures reserved { ReservesExactly (typed_owned self.old) additional result
@@ -205,7 +210,7 @@ impl TypedPathBuf {
         each!(self, own => own.reserve_exact(additional))
     }
 
-    /// As [`PathBuf::try_reserve_exact`].
+    /// Alias of `reserve_exact`, which is fallible already. See [`PathBuf::try_reserve_exact`].
     pub fn try_reserve_exact(&mut self, additional: usize) -> Result<(), AllocError>
         ensures dialect { KeepsDialect self.old self.new }
         ensures reserved { ReservesExactly (typed_owned self.old) additional result
@@ -214,7 +219,8 @@ impl TypedPathBuf {
         each!(self, own => own.try_reserve_exact(additional))
     }
 
-    /// As [`PathBuf::shrink_to_fit`].
+    /// Gives unused capacity back, as far as a smaller block can be allocated, and never fails. See
+    /// [`PathBuf::shrink_to_fit`].
     pub fn shrink_to_fit(&mut self) -> Result<(), AllocError>
         ensures dialect { KeepsDialect self.old self.new }
         ensures shrunk { ShrinksTo (typed_owned self.old) 0 result (typed_owned self.new) }
@@ -222,7 +228,8 @@ impl TypedPathBuf {
         each!(self, own => own.shrink_to_fit())
     }
 
-    /// As [`PathBuf::shrink_to`].
+    /// Gives unused capacity above `min_capacity` bytes back, as far as a smaller block can be
+    /// allocated, and never fails. See [`PathBuf::shrink_to`].
     pub fn shrink_to(&mut self, min_capacity: usize) -> Result<(), AllocError>
         ensures dialect { KeepsDialect self.old self.new }
         ensures shrunk { ShrinksTo (typed_owned self.old) min_capacity result
@@ -231,7 +238,7 @@ impl TypedPathBuf {
         each!(self, own => own.shrink_to(min_capacity))
     }
 
-    /// As [`PathBuf::into_vec`].
+    /// The bytes of the path, with no copy. See [`PathBuf::into_vec`].
     pub fn into_vec(self) -> Vec<u8>
         ensures bytes { result.items ≡ owned_bytes self }
         ensures capacity { vec_capacity result ≡ (typed_owned self).capacity }
@@ -239,21 +246,22 @@ impl TypedPathBuf {
         each!(self, own => own.into_vec())
     }
 
-    /// As [`TypedPath::as_bytes`].
+    /// The bytes of the path. See [`TypedPath::as_bytes`].
     pub fn as_bytes(&self) -> &[u8]
         ensures { result.now ≡ owned_bytes self.now }
     {
         self.to_path().as_bytes()
     }
 
-    /// As [`TypedPath::to_str`].
+    /// Returns the path as text if it is UTF-8, else `None`. See [`TypedPath::to_str`].
     pub fn to_str(&self) -> Option<&str>
         ensures { option_copied result ≡ text_of_bytes (owned_bytes self.now) }
     {
         self.to_path().to_str()
     }
 
-    /// As [`TypedPath::to_string_lossy`].
+    /// Returns the path as text, with U+FFFD for what is not UTF-8. See
+    /// [`TypedPath::to_string_lossy`].
     pub fn to_string_lossy(&self, alloc: Global) -> Result<CowStr<'_>, AllocError>
         ensures text { IfOk result
             (λ text. cow_str_bytes text ≡ utf8_lossy (owned_bytes self.now)) }
@@ -263,7 +271,7 @@ impl TypedPathBuf {
         self.to_path().to_string_lossy(alloc)
     }
 
-    /// As [`TypedPath::is_absolute`].
+    /// Whether the path is absolute. See [`TypedPath::is_absolute`].
     pub fn is_absolute(&self) -> bool
         ensures { result ≡ is_absolute (typed_dialect self.now)
             (kinds (parts_of (typed_dialect self.now) (owned_bytes self.now))) }
@@ -271,7 +279,7 @@ impl TypedPathBuf {
         self.to_path().is_absolute()
     }
 
-    /// As [`TypedPath::is_relative`].
+    /// Whether the path is not absolute. See [`TypedPath::is_relative`].
     pub fn is_relative(&self) -> bool
         ensures { result ≡ not (is_absolute (typed_dialect self.now)
             (kinds (parts_of (typed_dialect self.now) (owned_bytes self.now)))) }
@@ -279,7 +287,7 @@ impl TypedPathBuf {
         self.to_path().is_relative()
     }
 
-    /// As [`TypedPath::has_root`].
+    /// Whether the path has a root. See [`TypedPath::has_root`].
     pub fn has_root(&self) -> bool
         ensures { result ≡ has_root (typed_dialect self.now)
             (kinds (parts_of (typed_dialect self.now) (owned_bytes self.now))) }
@@ -287,28 +295,31 @@ impl TypedPathBuf {
         self.to_path().has_root()
     }
 
-    /// As [`TypedPath::may_be_device`].
+    /// Whether some version of Windows may take a name of the path for a device, as `nul .txt`. See
+    /// [`TypedPath::may_be_device`].
     pub fn may_be_device(&self) -> bool
         ensures { result ≡ may_be_device (typed_dialect self.now) (owned_bytes self.now) }
     {
         self.to_path().may_be_device()
     }
 
-    /// As [`TypedPath::is_portable`].
+    /// Whether the path has no prefix and every system takes each of its names as it is written.
+    /// See [`TypedPath::is_portable`].
     pub fn is_portable(&self) -> bool
         ensures { result ≡ is_portable (typed_dialect self.now) (owned_bytes self.now) }
     {
         self.to_path().is_portable()
     }
 
-    /// As [`TypedPath::check_portable`].
+    /// Checks that the path has no prefix, and that every system takes each of its names as it is
+    /// written. See [`TypedPath::check_portable`].
     pub fn check_portable(&self) -> Result<(), PortableError>
         ensures { error_of result ≡ portable_fault (typed_dialect self.now) (owned_bytes self.now) }
     {
         self.to_path().check_portable()
     }
 
-    /// As [`TypedPath::unportable`].
+    /// Returns the first component that is not portable, and why. See [`TypedPath::unportable`].
     pub fn unportable(&self) -> Option<(&[u8], PortableError)>
         ensures { option_map offence_of result
             ≡ unportable (typed_dialect self.now) (owned_bytes self.now) }
@@ -316,14 +327,16 @@ impl TypedPathBuf {
         self.to_path().unportable()
     }
 
-    /// As [`TypedPath::keeps_prefix`].
+    /// Whether each path that a checked join makes of this one is known to have the prefix of this
+    /// one, or none if this one has none. See [`TypedPath::keeps_prefix`].
     pub fn keeps_prefix(&self) -> bool
         ensures { result ≡ keeps_prefix (typed_dialect self.now) (owned_bytes self.now) }
     {
         self.to_path().keeps_prefix()
     }
 
-    /// As [`TypedPath::simplified`].
+    /// Returns a path of a verbatim drive of Windows, `\\?\C:`, without its `\\?\`, if that means
+    /// the same to Windows. See [`TypedPath::simplified`].
     pub fn simplified(&self) -> TypedPath<'_>
         ensures dialect { typed_dialect result ≡ typed_dialect self.now }
         ensures bytes { typed_bytes result
@@ -332,7 +345,7 @@ impl TypedPathBuf {
         self.to_path().simplified()
     }
 
-    /// As [`TypedPath::parent`].
+    /// Returns the path without its last component. See [`TypedPath::parent`].
     pub fn parent(&self) -> Option<TypedPath<'_>>
         ensures dialect { IfSome result (λ p. typed_dialect p ≡ typed_dialect self.now) }
         ensures bytes { option_map typed_bytes result
@@ -341,7 +354,8 @@ impl TypedPathBuf {
         self.to_path().parent()
     }
 
-    /// As [`TypedPath::ancestors`].
+    /// Returns an iterator over the path, and then each parent of the one before. See
+    /// [`TypedPath::ancestors`].
     pub fn ancestors(&self) -> TypedAncestors<'_>
         ensures dialect { typed_dialect result ≡ typed_dialect self.now }
         ensures left { typed_ancestors_left result
@@ -350,7 +364,7 @@ impl TypedPathBuf {
         self.to_path().ancestors()
     }
 
-    /// As [`TypedPath::file_name`].
+    /// Returns the last component if it is a name, else `None`. See [`TypedPath::file_name`].
     pub fn file_name(&self) -> Option<&[u8]>
         ensures { option_copied result
             ≡ file_name_of (typed_dialect self.now) (owned_bytes self.now) }
@@ -358,7 +372,8 @@ impl TypedPathBuf {
         self.to_path().file_name()
     }
 
-    /// As [`TypedPath::file_stem`].
+    /// Returns the file name up to its last dot, or the whole file name if it has no dot but one at
+    /// its start. See [`TypedPath::file_stem`].
     pub fn file_stem(&self) -> Option<&[u8]>
         ensures { option_copied result
             ≡ file_stem_of (typed_dialect self.now) (owned_bytes self.now) }
@@ -366,14 +381,15 @@ impl TypedPathBuf {
         self.to_path().file_stem()
     }
 
-    /// As [`TypedPath::extension`].
+    /// Returns what follows the last dot of the file name. See [`TypedPath::extension`].
     pub fn extension(&self) -> Option<&[u8]>
         ensures { option_copied result ≡ extension (typed_dialect self.now) (owned_bytes self.now) }
     {
         self.to_path().extension()
     }
 
-    /// As [`TypedPath::file_prefix`].
+    /// Returns the file name up to its first dot that is not at its start, or the whole file name
+    /// if it has none. See [`TypedPath::file_prefix`].
     pub fn file_prefix(&self) -> Option<&[u8]>
         ensures { option_copied result
             ≡ file_prefix_of (typed_dialect self.now) (owned_bytes self.now) }
@@ -381,14 +397,16 @@ impl TypedPathBuf {
         self.to_path().file_prefix()
     }
 
-    /// As [`TypedPath::has_trailing_separator`].
+    /// Whether the last byte is a separator of the path, as that of `a/`, and of `/` alone. See
+    /// [`TypedPath::has_trailing_separator`].
     pub fn has_trailing_separator(&self) -> bool
         ensures { result ≡ has_trailing_separator (typed_dialect self.now) (owned_bytes self.now) }
     {
         self.to_path().has_trailing_separator()
     }
 
-    /// As [`TypedPath::strip_prefix`].
+    /// Returns what is left of the path after `base`, read in the same dialect. See
+    /// [`TypedPath::strip_prefix`].
     pub fn strip_prefix(&self, base: &[u8]) -> Result<TypedPath<'_>, StripPrefixError>
         ensures dialect { IfOk result (λ p. typed_dialect p ≡ typed_dialect self.now) }
         ensures bytes { stripped_to typed_bytes result
@@ -397,7 +415,8 @@ impl TypedPathBuf {
         self.to_path().strip_prefix(base)
     }
 
-    /// As [`TypedPath::starts_with`].
+    /// Whether the path begins with the components of `base`, read in the same dialect and compared
+    /// as they are written. See [`TypedPath::starts_with`].
     pub fn starts_with(&self, base: &[u8]) -> bool
         ensures { result
             ≡ path_starts_with (typed_dialect self.now) (owned_bytes self.now) base.now }
@@ -405,7 +424,8 @@ impl TypedPathBuf {
         self.to_path().starts_with(base)
     }
 
-    /// As [`TypedPath::starts_with_ignore_ascii_case`].
+    /// Whether the path begins with the components of `base` in lower case, read in the same
+    /// dialect and compared as they are written. See [`TypedPath::starts_with_ignore_ascii_case`].
     pub fn starts_with_ignore_ascii_case(&self, base: &[u8]) -> bool
         ensures { result ≡ path_starts_with (typed_dialect self.now)
             (lowered (typed_dialect self.now) (owned_bytes self.now))
@@ -414,7 +434,8 @@ impl TypedPathBuf {
         self.to_path().starts_with_ignore_ascii_case(base)
     }
 
-    /// As [`TypedPath::eq_ignore_ascii_case`].
+    /// Whether the path is of the dialect of `other`, and has the same components in lower case.
+    /// See [`TypedPath::eq_ignore_ascii_case`].
     pub fn eq_ignore_ascii_case(&self, other: TypedPath<'_>) -> bool
         ensures { result ≡ lowered_typed_eq (typed_dialect self.now) (owned_bytes self.now)
             (typed_dialect other.entry) (typed_bytes other.entry) }
@@ -422,7 +443,7 @@ impl TypedPathBuf {
         self.to_path().eq_ignore_ascii_case(other)
     }
 
-    /// As [`TypedPath::cmp_ignore_ascii_case`].
+    /// Returns the order of the path and `other`. See [`TypedPath::cmp_ignore_ascii_case`].
     pub fn cmp_ignore_ascii_case(&self, other: TypedPath<'_>) -> Ordering
         ensures { result ≡ lowered_typed_cmp (typed_dialect self.now) (owned_bytes self.now)
             (typed_dialect other.entry) (typed_bytes other.entry) }
@@ -430,7 +451,8 @@ impl TypedPathBuf {
         self.to_path().cmp_ignore_ascii_case(other)
     }
 
-    /// As [`TypedPath::common_ancestor`].
+    /// Returns the leading components that both paths share, compared as they are written, as the
+    /// front of this path up to the end of the last one. See [`TypedPath::common_ancestor`].
     pub fn common_ancestor(&self, other: &[u8]) -> Option<TypedPath<'_>>
         ensures dialect { IfSome result (λ p. typed_dialect p ≡ typed_dialect self.now) }
         ensures bytes { option_map typed_bytes result
@@ -439,14 +461,16 @@ impl TypedPathBuf {
         self.to_path().common_ancestor(other)
     }
 
-    /// As [`TypedPath::is_within`].
+    /// Whether the path lies at `base` or below it, from whatever directory both are read. See
+    /// [`TypedPath::is_within`].
     pub fn is_within(&self, base: &[u8]) -> bool
         ensures { result ≡ is_within (typed_dialect self.now) (owned_bytes self.now) base.now }
     {
         self.to_path().is_within(base)
     }
 
-    /// As [`TypedPath::relative_to`].
+    /// Returns the path from `base`, read in the same dialect, to this one. See
+    /// [`TypedPath::relative_to`].
     pub fn relative_to(
         &self,
         alloc: Global,
@@ -460,14 +484,16 @@ impl TypedPathBuf {
         self.to_path().relative_to(alloc, base)
     }
 
-    /// As [`TypedPath::ends_with`].
+    /// Whether the path ends with the components of `end`, read in the same dialect and compared as
+    /// they are written. See [`TypedPath::ends_with`].
     pub fn ends_with(&self, end: &[u8]) -> bool
         ensures { result ≡ path_ends_with (typed_dialect self.now) (owned_bytes self.now) end.now }
     {
         self.to_path().ends_with(end)
     }
 
-    /// As [`TypedPath::components`].
+    /// Returns an iterator over the components of the path, from either end. See
+    /// [`TypedPath::components`].
     pub fn components(&self) -> TypedComponents<'_>
         ensures dialect { reading_dialect result ≡ typed_dialect self.now }
         ensures items { typed_items result ≡ comps (typed_dialect self.now) (owned_bytes self.now) }
@@ -476,7 +502,8 @@ impl TypedPathBuf {
         self.to_path().components()
     }
 
-    /// As [`TypedPath::iter`].
+    /// Returns an iterator over the texts of the components, from either end. See
+    /// [`TypedPath::iter`].
     pub fn iter(&self) -> TypedIter<'_>
         ensures dialect { typed_dialect result ≡ typed_dialect self.now }
         ensures items { typed_iter_items result
@@ -486,7 +513,8 @@ impl TypedPathBuf {
         self.to_path().iter()
     }
 
-    /// As [`TypedPath::join`].
+    /// Returns this path with `path`, read in the same dialect, pushed onto it. See
+    /// [`TypedPath::join`].
     pub fn join(&self, alloc: Global, path: &[u8]) -> Result<TypedPathBuf, AllocError>
         ensures dialect { IfOk result (λ p. typed_dialect p ≡ typed_dialect self.now) }
         ensures joined { IfOk result (λ p. owned_bytes p
@@ -495,7 +523,8 @@ impl TypedPathBuf {
         self.to_path().join(alloc, path)
     }
 
-    /// As [`TypedPath::join_checked`].
+    /// Returns this path with `path`, read in the same dialect, pushed onto it, unless a component
+    /// of `path` offends. See [`TypedPath::join_checked`].
     pub fn join_checked(&self, alloc: Global, path: &[u8]) -> Result<TypedPathBuf, PathError>
         ensures dialect { IfOk result (λ p. typed_dialect p ≡ typed_dialect self.now) }
         ensures joined { JoinsChecked (typed_dialect self.now) owned_bytes (owned_bytes self.now)
@@ -504,7 +533,8 @@ impl TypedPathBuf {
         self.to_path().join_checked(alloc, path)
     }
 
-    /// As [`TypedPath::join_portable`].
+    /// Returns this path with `path`, read in the same dialect, pushed onto it, unless `path` is
+    /// not portable or a component of it offends. See [`TypedPath::join_portable`].
     pub fn join_portable(&self, alloc: Global, path: &[u8]) -> Result<TypedPathBuf, JoinError>
         ensures dialect { IfOk result (λ p. typed_dialect p ≡ typed_dialect self.now) }
         ensures joined { JoinsPortable (typed_dialect self.now) owned_bytes (owned_bytes self.now)
@@ -513,7 +543,8 @@ impl TypedPathBuf {
         self.to_path().join_portable(alloc, path)
     }
 
-    /// As [`TypedPath::with_file_name`].
+    /// Returns a copy without its file name, if it has one, and with `name` pushed onto that. See
+    /// [`TypedPath::with_file_name`].
     pub fn with_file_name(&self, alloc: Global, name: &[u8]) -> Result<TypedPathBuf, AllocError>
         ensures dialect { IfOk result (λ p. typed_dialect p ≡ typed_dialect self.now) }
         ensures bytes { IfOk result (λ p. owned_bytes p
@@ -522,7 +553,8 @@ impl TypedPathBuf {
         self.to_path().with_file_name(alloc, name)
     }
 
-    /// As [`TypedPath::with_extension`].
+    /// Returns a copy whose file name has another extension, or none if `extension` is empty. See
+    /// [`TypedPath::with_extension`].
     pub fn with_extension(&self, alloc: Global, extension: &[u8]) -> Result<Self, AllocError>
         ensures dialect { IfOk result (λ p. typed_dialect p ≡ typed_dialect self.now) }
         ensures bytes { IfOk result (λ p. owned_bytes p
@@ -531,7 +563,8 @@ impl TypedPathBuf {
         self.to_path().with_extension(alloc, extension)
     }
 
-    /// As [`TypedPath::with_added_extension`].
+    /// Returns a copy with `extension` appended to its file name, after a dot. See
+    /// [`TypedPath::with_added_extension`].
     pub fn with_added_extension(&self, alloc: Global, extension: &[u8]) -> Result<Self, AllocError>
         ensures dialect { IfOk result (λ p. typed_dialect p ≡ typed_dialect self.now) }
         ensures bytes { IfOk result (λ p. owned_bytes p
@@ -540,7 +573,8 @@ impl TypedPathBuf {
         self.to_path().with_added_extension(alloc, extension)
     }
 
-    /// As [`TypedPath::normalize`].
+    /// Returns the path without `.`, and without `..` and the names that these cancel. See
+    /// [`TypedPath::normalize`].
     pub fn normalize(&self, alloc: Global) -> Result<TypedPathBuf, AllocError>
         ensures dialect { IfOk result (λ p. typed_dialect p ≡ typed_dialect self.now) }
         ensures normal { Normalizes (typed_dialect self.now) owned_bytes (owned_bytes self.now)
@@ -549,7 +583,8 @@ impl TypedPathBuf {
         self.to_path().normalize(alloc)
     }
 
-    /// As [`TypedPath::clean`].
+    /// Returns the path without `.`, doubled separators, a last separator that is no root, and
+    /// names that a `..` cancels. See [`TypedPath::clean`].
     pub fn clean(&self, alloc: Global) -> Result<TypedPathBuf, AllocError>
         ensures dialect { IfOk result (λ p. typed_dialect p ≡ typed_dialect self.now) }
         ensures bytes { IfOk result (λ p. owned_bytes p
@@ -558,7 +593,8 @@ impl TypedPathBuf {
         self.to_path().clean(alloc)
     }
 
-    /// As [`TypedPath::to_ascii_lowercase`].
+    /// Returns the path with each ASCII letter in lower case, except on Windows the `UNC` of
+    /// `\\?\UNC\` before a server. See [`TypedPath::to_ascii_lowercase`].
     pub fn to_ascii_lowercase(&self, alloc: Global) -> Result<TypedPathBuf, AllocError>
         ensures dialect { IfOk result (λ p. typed_dialect p ≡ typed_dialect self.now) }
         ensures bytes { IfOk result (λ p. owned_bytes p
@@ -567,7 +603,8 @@ impl TypedPathBuf {
         self.to_path().to_ascii_lowercase(alloc)
     }
 
-    /// As [`TypedPath::absolutize`].
+    /// Returns the normal path of this path if it is absolute, else that of `directory`, written in
+    /// this path's dialect, with this path pushed onto it. See [`TypedPath::absolutize`].
     pub fn absolutize(
         &self,
         alloc: Global,
@@ -580,7 +617,8 @@ impl TypedPathBuf {
         self.to_path().absolutize(alloc, directory)
     }
 
-    /// As [`TypedPath::absolutize_from`].
+    /// Returns the normal path of this path if it is absolute, else that of `directory`, written in
+    /// this path's dialect, with this path pushed onto it. See [`TypedPath::absolutize_from`].
     pub fn absolutize_from(
         &self,
         alloc: Global,
@@ -593,7 +631,7 @@ impl TypedPathBuf {
         self.to_path().absolutize_from(alloc, directory)
     }
 
-    /// As [`TypedPath::with_unix_encoding`].
+    /// Returns the path as on Unix. See [`TypedPath::with_unix_encoding`].
     pub fn with_unix_encoding(&self, alloc: Global) -> Result<TypedPathBuf, AllocError>
         ensures dialect { IfOk result (λ p. typed_dialect p ≡ unix) }
         ensures bytes { IfOk result (λ p. owned_bytes p
@@ -602,7 +640,8 @@ impl TypedPathBuf {
         self.to_path().with_unix_encoding(alloc)
     }
 
-    /// As [`TypedPath::with_unix_encoding_checked`].
+    /// Returns the path as on Unix, also if it is a Unix path. See
+    /// [`TypedPath::with_unix_encoding_checked`].
     pub fn with_unix_encoding_checked(&self, alloc: Global) -> Result<TypedPathBuf, PathError>
         ensures dialect { IfOk result (λ p. typed_dialect p ≡ unix) }
         ensures converted { ConvertsChecked (typed_dialect self.now) unix owned_bytes
@@ -611,7 +650,7 @@ impl TypedPathBuf {
         self.to_path().with_unix_encoding_checked(alloc)
     }
 
-    /// As [`TypedPath::with_windows_encoding`].
+    /// Returns the path as on Windows. See [`TypedPath::with_windows_encoding`].
     pub fn with_windows_encoding(&self, alloc: Global) -> Result<TypedPathBuf, AllocError>
         ensures dialect { IfOk result (λ p. typed_dialect p ≡ windows) }
         ensures bytes { IfOk result (λ p. owned_bytes p
@@ -620,7 +659,8 @@ impl TypedPathBuf {
         self.to_path().with_windows_encoding(alloc)
     }
 
-    /// As [`TypedPath::with_windows_encoding_checked`].
+    /// Returns the path as on Windows, also if it is a Windows path. See
+    /// [`TypedPath::with_windows_encoding_checked`].
     pub fn with_windows_encoding_checked(&self, alloc: Global) -> Result<TypedPathBuf, PathError>
         ensures dialect { IfOk result (λ p. typed_dialect p ≡ windows) }
         ensures converted { ConvertsChecked (typed_dialect self.now) windows owned_bytes

@@ -252,7 +252,7 @@ impl<'a> Utf8WindowsPrefixComponent<'a> {
         self.raw.len()
     }
 
-    /// Returns the text of the prefix.
+    /// Returns the prefix as it is written in the path, as `c:` of `c:\a`.
     pub fn as_str(self) -> &'a str
         ensures { result.now ≡ (text_prefix_part self.entry).text }
     {

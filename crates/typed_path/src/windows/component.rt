@@ -145,7 +145,7 @@ impl<'a> WindowsPrefixComponent<'a> {
         self.raw.len()
     }
 
-    /// Returns the bytes of the prefix.
+    /// Returns the prefix as it is written in the path, as `c:` of `c:\a`.
     pub fn as_bytes(self) -> &'a [u8]
         ensures { result.now ≡ (prefix_component_part self.entry).text }
     {

@@ -97,7 +97,7 @@ impl Utf8TypedPathBuf {
         typed!(self, own => own.as_path())
     }
 
-    /// As [`Utf8PathBuf::push`].
+    /// Pushes `path` onto this one. See [`Utf8PathBuf::push`].
     pub fn push(&mut self, path: &str) -> Result<(), AllocError>
         ensures dialect { KeepsDialect self.old self.new }
         ensures pushed { Pushes (typed_dialect self.old) (typed_owned self.old) path.now result
@@ -106,7 +106,8 @@ impl Utf8TypedPathBuf {
         each!(self, own => own.push(Utf8Path::new(path)))
     }
 
-    /// As [`Utf8PathBuf::push_checked`].
+    /// Pushes `path` onto this one, unless a component of `path` offends. See
+    /// [`Utf8PathBuf::push_checked`].
     pub fn push_checked(&mut self, path: &str) -> Result<(), PathError>
         ensures dialect { KeepsDialect self.old self.new }
         ensures pushed { PushesChecked (typed_dialect self.old) (typed_owned self.old) path.now
@@ -115,7 +116,7 @@ impl Utf8TypedPathBuf {
         each!(self, own => own.push_checked(Utf8Path::new(path)))
     }
 
-    /// As [`Utf8PathBuf::pop`].
+    /// Cuts the path to its parent. See [`Utf8PathBuf::pop`].
     pub fn pop(&mut self) -> bool
         ensures dialect { KeepsDialect self.old self.new }
         ensures popped { Pops (typed_dialect self.old) (typed_owned self.old) result
@@ -124,7 +125,8 @@ impl Utf8TypedPathBuf {
         each!(self, own => own.pop())
     }
 
-    /// As [`Utf8PathBuf::set_file_name`].
+    /// Removes the file name, if there is one, and pushes `name` onto what is left. See
+    /// [`Utf8PathBuf::set_file_name`].
     pub fn set_file_name(&mut self, name: &str) -> Result<(), AllocError>
         ensures dialect { KeepsDialect self.old self.new }
         ensures named { SetsFileName (typed_dialect self.old) (typed_owned self.old) name.now result
@@ -133,7 +135,8 @@ impl Utf8TypedPathBuf {
         each!(self, own => own.set_file_name(name))
     }
 
-    /// As [`Utf8PathBuf::set_extension`].
+    /// Replaces the extension of the file name, or removes it if `extension` is empty. See
+    /// [`Utf8PathBuf::set_extension`].
     pub fn set_extension(&mut self, extension: &str) -> Result<bool, AllocError>
         ensures dialect { KeepsDialect self.old self.new }
         ensures extended { SetsExtension (typed_dialect self.old) (typed_owned self.old)
@@ -142,7 +145,7 @@ impl Utf8TypedPathBuf {
         each!(self, own => own.set_extension(extension))
     }
 
-    /// As [`Utf8PathBuf::add_extension`].
+    /// Appends a dot and `extension` to the file name. See [`Utf8PathBuf::add_extension`].
     pub fn add_extension(&mut self, extension: &str) -> Result<bool, AllocError>
         ensures dialect { KeepsDialect self.old self.new }
         ensures extended { AddsExtension (typed_dialect self.old) (typed_owned self.old)
@@ -151,7 +154,7 @@ impl Utf8TypedPathBuf {
         each!(self, own => own.add_extension(extension))
     }
 
-    /// As [`Utf8PathBuf::clear`].
+    /// Makes the path empty. See [`Utf8PathBuf::clear`].
     pub fn clear(&mut self)
         ensures dialect { KeepsDialect self.old self.new }
         ensures cleared { Clears (typed_owned self.old) (typed_owned self.new) }
@@ -159,14 +162,15 @@ impl Utf8TypedPathBuf {
         each!(self, own => own.clear())
     }
 
-    /// As [`Utf8PathBuf::capacity`].
+    /// How many bytes the path can hold without allocating, its own included. See
+    /// [`Utf8PathBuf::capacity`].
     pub fn capacity(&self) -> usize
         ensures { result ≡ (typed_owned self.now).capacity }
     {
         each!(self, own => own.capacity())
     }
 
-    /// As [`Utf8PathBuf::reserve`].
+    /// Reserves capacity for at least `additional` bytes more. See [`Utf8PathBuf::reserve`].
     pub fn reserve(&mut self, additional: usize) -> Result<(), AllocError>
         ensures dialect { KeepsDialect self.old self.new }
         ensures reserved { Reserves (typed_owned self.old) additional result
@@ -175,7 +179,7 @@ impl Utf8TypedPathBuf {
         each!(self, own => own.reserve(additional))
     }
 
-    /// As [`Utf8PathBuf::try_reserve`].
+    /// Alias of `reserve`, which is fallible already. See [`Utf8PathBuf::try_reserve`].
     pub fn try_reserve(&mut self, additional: usize) -> Result<(), AllocError>
         ensures dialect { KeepsDialect self.old self.new }
         ensures reserved { Reserves (typed_owned self.old) additional result
@@ -184,7 +188,8 @@ impl Utf8TypedPathBuf {
         each!(self, own => own.try_reserve(additional))
     }
 
-    /// As [`Utf8PathBuf::reserve_exact`].
+    /// Reserves capacity for `additional` bytes more, and for no more than these if it has to grow.
+    /// See [`Utf8PathBuf::reserve_exact`].
     pub fn reserve_exact(&mut self, additional: usize) -> Result<(), AllocError>
         ensures dialect { KeepsDialect self.old self.new }
         ensures reserved { ReservesExactly (typed_owned self.old) additional result
@@ -193,7 +198,7 @@ impl Utf8TypedPathBuf {
         each!(self, own => own.reserve_exact(additional))
     }
 
-    /// As [`Utf8PathBuf::try_reserve_exact`].
+    /// Alias of `reserve_exact`, which is fallible already. See [`Utf8PathBuf::try_reserve_exact`].
     pub fn try_reserve_exact(&mut self, additional: usize) -> Result<(), AllocError>
         ensures dialect { KeepsDialect self.old self.new }
         ensures reserved { ReservesExactly (typed_owned self.old) additional result
@@ -202,7 +207,8 @@ impl Utf8TypedPathBuf {
         each!(self, own => own.try_reserve_exact(additional))
     }
 
-    /// As [`Utf8PathBuf::shrink_to_fit`].
+    /// Gives unused capacity back, as far as a smaller block can be allocated, and never fails. See
+    /// [`Utf8PathBuf::shrink_to_fit`].
     pub fn shrink_to_fit(&mut self) -> Result<(), AllocError>
         ensures dialect { KeepsDialect self.old self.new }
         ensures shrunk { ShrinksTo (typed_owned self.old) 0 result (typed_owned self.new) }
@@ -210,7 +216,8 @@ impl Utf8TypedPathBuf {
         each!(self, own => own.shrink_to_fit())
     }
 
-    /// As [`Utf8PathBuf::shrink_to`].
+    /// Gives unused capacity above `min_capacity` bytes back, as far as a smaller block can be
+    /// allocated, and never fails. See [`Utf8PathBuf::shrink_to`].
     pub fn shrink_to(&mut self, min_capacity: usize) -> Result<(), AllocError>
         ensures dialect { KeepsDialect self.old self.new }
         ensures shrunk { ShrinksTo (typed_owned self.old) min_capacity result
@@ -219,7 +226,7 @@ impl Utf8TypedPathBuf {
         each!(self, own => own.shrink_to(min_capacity))
     }
 
-    /// As [`Utf8PathBuf::into_string`].
+    /// The text of the path, with no copy. See [`Utf8PathBuf::into_string`].
     pub fn into_string(self) -> String
         ensures bytes { string_bytes result ≡ owned_bytes self }
         ensures capacity { string_capacity result ≡ (typed_owned self).capacity }
@@ -227,14 +234,14 @@ impl Utf8TypedPathBuf {
         each!(self, own => own.into_string())
     }
 
-    /// As [`Utf8TypedPath::as_str`].
+    /// The text of the path. See [`Utf8TypedPath::as_str`].
     pub fn as_str(&self) -> &str
         ensures { result.now ≡ owned_bytes self.now }
     {
         self.to_path().as_str()
     }
 
-    /// As [`Utf8TypedPath::is_absolute`].
+    /// Whether the path is absolute. See [`Utf8TypedPath::is_absolute`].
     pub fn is_absolute(&self) -> bool
         ensures { result ≡ is_absolute (typed_dialect self.now)
             (kinds (parts_of (typed_dialect self.now) (owned_bytes self.now))) }
@@ -242,7 +249,7 @@ impl Utf8TypedPathBuf {
         self.to_path().is_absolute()
     }
 
-    /// As [`Utf8TypedPath::is_relative`].
+    /// Whether the path is not absolute. See [`Utf8TypedPath::is_relative`].
     pub fn is_relative(&self) -> bool
         ensures { result ≡ not (is_absolute (typed_dialect self.now)
             (kinds (parts_of (typed_dialect self.now) (owned_bytes self.now)))) }
@@ -250,7 +257,7 @@ impl Utf8TypedPathBuf {
         self.to_path().is_relative()
     }
 
-    /// As [`Utf8TypedPath::has_root`].
+    /// Whether the path has a root. See [`Utf8TypedPath::has_root`].
     pub fn has_root(&self) -> bool
         ensures { result ≡ has_root (typed_dialect self.now)
             (kinds (parts_of (typed_dialect self.now) (owned_bytes self.now))) }
@@ -258,28 +265,31 @@ impl Utf8TypedPathBuf {
         self.to_path().has_root()
     }
 
-    /// As [`Utf8TypedPath::may_be_device`].
+    /// Whether some version of Windows may take a name of the path for a device, as `nul .txt`. See
+    /// [`Utf8TypedPath::may_be_device`].
     pub fn may_be_device(&self) -> bool
         ensures { result ≡ may_be_device (typed_dialect self.now) (owned_bytes self.now) }
     {
         self.to_path().may_be_device()
     }
 
-    /// As [`Utf8TypedPath::is_portable`].
+    /// Whether the path has no prefix and every system takes each of its names as it is written.
+    /// See [`Utf8TypedPath::is_portable`].
     pub fn is_portable(&self) -> bool
         ensures { result ≡ is_portable (typed_dialect self.now) (owned_bytes self.now) }
     {
         self.to_path().is_portable()
     }
 
-    /// As [`Utf8TypedPath::check_portable`].
+    /// Checks that the path has no prefix, and that every system takes each of its names as it is
+    /// written. See [`Utf8TypedPath::check_portable`].
     pub fn check_portable(&self) -> Result<(), PortableError>
         ensures { error_of result ≡ portable_fault (typed_dialect self.now) (owned_bytes self.now) }
     {
         self.to_path().check_portable()
     }
 
-    /// As [`Utf8TypedPath::unportable`].
+    /// Returns the first component that is not portable, and why. See [`Utf8TypedPath::unportable`].
     pub fn unportable(&self) -> Option<(&str, PortableError)>
         ensures { option_map offence_of result
             ≡ unportable (typed_dialect self.now) (owned_bytes self.now) }
@@ -287,14 +297,16 @@ impl Utf8TypedPathBuf {
         self.to_path().unportable()
     }
 
-    /// As [`Utf8TypedPath::keeps_prefix`].
+    /// Whether each path that a checked join makes of this one is known to have the prefix of this
+    /// one, or none if this one has none. See [`Utf8TypedPath::keeps_prefix`].
     pub fn keeps_prefix(&self) -> bool
         ensures { result ≡ keeps_prefix (typed_dialect self.now) (owned_bytes self.now) }
     {
         self.to_path().keeps_prefix()
     }
 
-    /// As [`Utf8TypedPath::simplified`].
+    /// Returns a path of a verbatim drive of Windows, `\\?\C:`, without its `\\?\`, if that means
+    /// the same to Windows. See [`Utf8TypedPath::simplified`].
     pub fn simplified(&self) -> Utf8TypedPath<'_>
         ensures dialect { typed_dialect result ≡ typed_dialect self.now }
         ensures bytes { typed_text result
@@ -303,7 +315,7 @@ impl Utf8TypedPathBuf {
         self.to_path().simplified()
     }
 
-    /// As [`Utf8TypedPath::parent`].
+    /// Returns the path without its last component. See [`Utf8TypedPath::parent`].
     pub fn parent(&self) -> Option<Utf8TypedPath<'_>>
         ensures dialect { IfSome result (λ p. typed_dialect p ≡ typed_dialect self.now) }
         ensures bytes { option_map typed_text result
@@ -312,7 +324,8 @@ impl Utf8TypedPathBuf {
         self.to_path().parent()
     }
 
-    /// As [`Utf8TypedPath::ancestors`].
+    /// Returns an iterator over the path, and then each parent of the one before. See
+    /// [`Utf8TypedPath::ancestors`].
     pub fn ancestors(&self) -> Utf8TypedAncestors<'_>
         ensures dialect { typed_dialect result ≡ typed_dialect self.now }
         ensures left { typed_text_ancestors_left result
@@ -321,7 +334,7 @@ impl Utf8TypedPathBuf {
         self.to_path().ancestors()
     }
 
-    /// As [`Utf8TypedPath::file_name`].
+    /// Returns the last component if it is a name, else `None`. See [`Utf8TypedPath::file_name`].
     pub fn file_name(&self) -> Option<&str>
         ensures { option_copied result
             ≡ file_name_of (typed_dialect self.now) (owned_bytes self.now) }
@@ -329,7 +342,8 @@ impl Utf8TypedPathBuf {
         self.to_path().file_name()
     }
 
-    /// As [`Utf8TypedPath::file_stem`].
+    /// Returns the file name up to its last dot, or the whole file name if it has no dot but one at
+    /// its start. See [`Utf8TypedPath::file_stem`].
     pub fn file_stem(&self) -> Option<&str>
         ensures { option_copied result
             ≡ file_stem_of (typed_dialect self.now) (owned_bytes self.now) }
@@ -337,14 +351,15 @@ impl Utf8TypedPathBuf {
         self.to_path().file_stem()
     }
 
-    /// As [`Utf8TypedPath::extension`].
+    /// Returns what follows the last dot of the file name. See [`Utf8TypedPath::extension`].
     pub fn extension(&self) -> Option<&str>
         ensures { option_copied result ≡ extension (typed_dialect self.now) (owned_bytes self.now) }
     {
         self.to_path().extension()
     }
 
-    /// As [`Utf8TypedPath::file_prefix`].
+    /// Returns the file name up to its first dot that is not at its start, or the whole file name
+    /// if it has none. See [`Utf8TypedPath::file_prefix`].
     pub fn file_prefix(&self) -> Option<&str>
         ensures { option_copied result
             ≡ file_prefix_of (typed_dialect self.now) (owned_bytes self.now) }
@@ -352,14 +367,16 @@ impl Utf8TypedPathBuf {
         self.to_path().file_prefix()
     }
 
-    /// As [`Utf8TypedPath::has_trailing_separator`].
+    /// Whether the last character is a separator of the path, as that of `a/`, and of `/` alone.
+    /// See [`Utf8TypedPath::has_trailing_separator`].
     pub fn has_trailing_separator(&self) -> bool
         ensures { result ≡ has_trailing_separator (typed_dialect self.now) (owned_bytes self.now) }
     {
         self.to_path().has_trailing_separator()
     }
 
-    /// As [`Utf8TypedPath::strip_prefix`].
+    /// Returns what is left of the path after `base`, read in the same dialect. See
+    /// [`Utf8TypedPath::strip_prefix`].
     pub fn strip_prefix(&self, base: &str) -> Result<Utf8TypedPath<'_>, StripPrefixError>
         ensures dialect { IfOk result (λ p. typed_dialect p ≡ typed_dialect self.now) }
         ensures bytes { stripped_to typed_text result
@@ -368,7 +385,8 @@ impl Utf8TypedPathBuf {
         self.to_path().strip_prefix(base)
     }
 
-    /// As [`Utf8TypedPath::starts_with`].
+    /// Whether the path begins with the components of `base`, read in the same dialect and compared
+    /// as they are written. See [`Utf8TypedPath::starts_with`].
     pub fn starts_with(&self, base: &str) -> bool
         ensures { result
             ≡ path_starts_with (typed_dialect self.now) (owned_bytes self.now) base.now }
@@ -376,7 +394,9 @@ impl Utf8TypedPathBuf {
         self.to_path().starts_with(base)
     }
 
-    /// As [`Utf8TypedPath::starts_with_ignore_ascii_case`].
+    /// Whether the path begins with the components of `base` in lower case, read in the same
+    /// dialect and compared as they are written. See
+    /// [`Utf8TypedPath::starts_with_ignore_ascii_case`].
     pub fn starts_with_ignore_ascii_case(&self, base: &str) -> bool
         ensures { result ≡ path_starts_with (typed_dialect self.now)
             (lowered (typed_dialect self.now) (owned_bytes self.now))
@@ -385,7 +405,8 @@ impl Utf8TypedPathBuf {
         self.to_path().starts_with_ignore_ascii_case(base)
     }
 
-    /// As [`Utf8TypedPath::eq_ignore_ascii_case`].
+    /// Whether the path is of the dialect of `other`, and has the same components in lower case.
+    /// See [`Utf8TypedPath::eq_ignore_ascii_case`].
     pub fn eq_ignore_ascii_case(&self, other: Utf8TypedPath<'_>) -> bool
         ensures { result ≡ lowered_typed_eq (typed_dialect self.now) (owned_bytes self.now)
             (typed_dialect other.entry) (typed_text other.entry) }
@@ -393,7 +414,7 @@ impl Utf8TypedPathBuf {
         self.to_path().eq_ignore_ascii_case(other)
     }
 
-    /// As [`Utf8TypedPath::cmp_ignore_ascii_case`].
+    /// Returns the order of the path and `other`. See [`Utf8TypedPath::cmp_ignore_ascii_case`].
     pub fn cmp_ignore_ascii_case(&self, other: Utf8TypedPath<'_>) -> Ordering
         ensures { result ≡ lowered_typed_cmp (typed_dialect self.now) (owned_bytes self.now)
             (typed_dialect other.entry) (typed_text other.entry) }
@@ -401,7 +422,8 @@ impl Utf8TypedPathBuf {
         self.to_path().cmp_ignore_ascii_case(other)
     }
 
-    /// As [`Utf8TypedPath::common_ancestor`].
+    /// Returns the leading components that both paths share, compared as they are written, as the
+    /// front of this path up to the end of the last one. See [`Utf8TypedPath::common_ancestor`].
     pub fn common_ancestor(&self, other: &str) -> Option<Utf8TypedPath<'_>>
         ensures dialect { IfSome result (λ p. typed_dialect p ≡ typed_dialect self.now) }
         ensures bytes { option_map typed_text result
@@ -410,14 +432,16 @@ impl Utf8TypedPathBuf {
         self.to_path().common_ancestor(other)
     }
 
-    /// As [`Utf8TypedPath::is_within`].
+    /// Whether the path lies at `base` or below it, from whatever directory both are read. See
+    /// [`Utf8TypedPath::is_within`].
     pub fn is_within(&self, base: &str) -> bool
         ensures { result ≡ is_within (typed_dialect self.now) (owned_bytes self.now) base.now }
     {
         self.to_path().is_within(base)
     }
 
-    /// As [`Utf8TypedPath::relative_to`].
+    /// Returns the path from `base`, read in the same dialect, to this one. See
+    /// [`Utf8TypedPath::relative_to`].
     pub fn relative_to(
         &self,
         alloc: Global,
@@ -431,14 +455,15 @@ impl Utf8TypedPathBuf {
         self.to_path().relative_to(alloc, base)
     }
 
-    /// As [`Utf8TypedPath::ends_with`].
+    /// Whether the path ends with the components of `end`, read in the same dialect and compared as
+    /// they are written. See [`Utf8TypedPath::ends_with`].
     pub fn ends_with(&self, end: &str) -> bool
         ensures { result ≡ path_ends_with (typed_dialect self.now) (owned_bytes self.now) end.now }
     {
         self.to_path().ends_with(end)
     }
 
-    /// As [`Utf8TypedPath::eq_str`].
+    /// Whether the path is this text, character by character. See [`Utf8TypedPath::eq_str`].
     #[inline]
     pub fn eq_str(&self, other: &str) -> bool
         ensures { result ≡ bytes_eq (owned_bytes self.now) other.now }
@@ -446,7 +471,8 @@ impl Utf8TypedPathBuf {
         self.to_path().eq_str(other)
     }
 
-    /// As [`Utf8TypedPath::components`].
+    /// Returns an iterator over the components of the path, from either end. See
+    /// [`Utf8TypedPath::components`].
     pub fn components(&self) -> Utf8TypedComponents<'_>
         ensures dialect { reading_dialect result ≡ typed_dialect self.now }
         ensures items { typed_text_items result
@@ -456,7 +482,8 @@ impl Utf8TypedPathBuf {
         self.to_path().components()
     }
 
-    /// As [`Utf8TypedPath::iter`].
+    /// Returns an iterator over the texts of the components, from either end. See
+    /// [`Utf8TypedPath::iter`].
     pub fn iter(&self) -> Utf8TypedIter<'_>
         ensures dialect { typed_dialect result ≡ typed_dialect self.now }
         ensures items { typed_text_iter_items result
@@ -466,7 +493,8 @@ impl Utf8TypedPathBuf {
         self.to_path().iter()
     }
 
-    /// As [`Utf8TypedPath::join`].
+    /// Returns this path with `path`, read in the same dialect, pushed onto it. See
+    /// [`Utf8TypedPath::join`].
     pub fn join(&self, alloc: Global, path: &str) -> Result<Utf8TypedPathBuf, AllocError>
         ensures dialect { IfOk result (λ p. typed_dialect p ≡ typed_dialect self.now) }
         ensures joined { IfOk result (λ p. owned_bytes p
@@ -475,7 +503,8 @@ impl Utf8TypedPathBuf {
         self.to_path().join(alloc, path)
     }
 
-    /// As [`Utf8TypedPath::join_checked`].
+    /// Returns this path with `path`, read in the same dialect, pushed onto it, unless a component
+    /// of `path` offends. See [`Utf8TypedPath::join_checked`].
     pub fn join_checked(&self, alloc: Global, path: &str) -> Result<Utf8TypedPathBuf, PathError>
         ensures dialect { IfOk result (λ p. typed_dialect p ≡ typed_dialect self.now) }
         ensures joined { JoinsChecked (typed_dialect self.now) owned_bytes (owned_bytes self.now)
@@ -484,7 +513,8 @@ impl Utf8TypedPathBuf {
         self.to_path().join_checked(alloc, path)
     }
 
-    /// As [`Utf8TypedPath::join_portable`].
+    /// Returns this path with `path`, read in the same dialect, pushed onto it, unless `path` is
+    /// not portable or a component of it offends. See [`Utf8TypedPath::join_portable`].
     pub fn join_portable(&self, alloc: Global, path: &str) -> Result<Utf8TypedPathBuf, JoinError>
         ensures dialect { IfOk result (λ p. typed_dialect p ≡ typed_dialect self.now) }
         ensures joined { JoinsPortable (typed_dialect self.now) owned_bytes (owned_bytes self.now)
@@ -493,7 +523,8 @@ impl Utf8TypedPathBuf {
         self.to_path().join_portable(alloc, path)
     }
 
-    /// As [`Utf8TypedPath::with_file_name`].
+    /// Returns a copy without its file name, if it has one, and with `name` pushed onto that. See
+    /// [`Utf8TypedPath::with_file_name`].
     pub fn with_file_name(&self, alloc: Global, name: &str) -> Result<Utf8TypedPathBuf, AllocError>
         ensures dialect { IfOk result (λ p. typed_dialect p ≡ typed_dialect self.now) }
         ensures bytes { IfOk result (λ p. owned_bytes p
@@ -502,7 +533,8 @@ impl Utf8TypedPathBuf {
         self.to_path().with_file_name(alloc, name)
     }
 
-    /// As [`Utf8TypedPath::with_extension`].
+    /// Returns a copy whose file name has another extension, or none if `extension` is empty. See
+    /// [`Utf8TypedPath::with_extension`].
     pub fn with_extension(&self, alloc: Global, extension: &str) -> Result<Self, AllocError>
         ensures dialect { IfOk result (λ p. typed_dialect p ≡ typed_dialect self.now) }
         ensures bytes { IfOk result (λ p. owned_bytes p
@@ -511,7 +543,8 @@ impl Utf8TypedPathBuf {
         self.to_path().with_extension(alloc, extension)
     }
 
-    /// As [`Utf8TypedPath::with_added_extension`].
+    /// Returns a copy with `extension` appended to its file name, after a dot. See
+    /// [`Utf8TypedPath::with_added_extension`].
     pub fn with_added_extension(&self, alloc: Global, extension: &str) -> Result<Self, AllocError>
         ensures dialect { IfOk result (λ p. typed_dialect p ≡ typed_dialect self.now) }
         ensures bytes { IfOk result (λ p. owned_bytes p
@@ -520,7 +553,8 @@ impl Utf8TypedPathBuf {
         self.to_path().with_added_extension(alloc, extension)
     }
 
-    /// As [`Utf8TypedPath::normalize`].
+    /// Returns the path without `.`, and without `..` and the names that these cancel. See
+    /// [`Utf8TypedPath::normalize`].
     pub fn normalize(&self, alloc: Global) -> Result<Utf8TypedPathBuf, AllocError>
         ensures dialect { IfOk result (λ p. typed_dialect p ≡ typed_dialect self.now) }
         ensures normal { Normalizes (typed_dialect self.now) owned_bytes (owned_bytes self.now)
@@ -529,7 +563,8 @@ impl Utf8TypedPathBuf {
         self.to_path().normalize(alloc)
     }
 
-    /// As [`Utf8TypedPath::clean`].
+    /// Returns the path without `.`, doubled separators, a last separator that is no root, and
+    /// names that a `..` cancels. See [`Utf8TypedPath::clean`].
     pub fn clean(&self, alloc: Global) -> Result<Utf8TypedPathBuf, AllocError>
         ensures dialect { IfOk result (λ p. typed_dialect p ≡ typed_dialect self.now) }
         ensures bytes { IfOk result (λ p. owned_bytes p
@@ -538,7 +573,8 @@ impl Utf8TypedPathBuf {
         self.to_path().clean(alloc)
     }
 
-    /// As [`Utf8TypedPath::to_ascii_lowercase`].
+    /// Returns the path with each ASCII letter in lower case, except on Windows the `UNC` of
+    /// `\\?\UNC\` before a server. See [`Utf8TypedPath::to_ascii_lowercase`].
     pub fn to_ascii_lowercase(&self, alloc: Global) -> Result<Utf8TypedPathBuf, AllocError>
         ensures dialect { IfOk result (λ p. typed_dialect p ≡ typed_dialect self.now) }
         ensures bytes { IfOk result (λ p. owned_bytes p
@@ -547,7 +583,8 @@ impl Utf8TypedPathBuf {
         self.to_path().to_ascii_lowercase(alloc)
     }
 
-    /// As [`Utf8TypedPath::absolutize`].
+    /// Returns the normal path of this path if it is absolute, else that of `directory`, written in
+    /// this path's dialect, with this path pushed onto it. See [`Utf8TypedPath::absolutize`].
     pub fn absolutize(
         &self,
         alloc: Global,
@@ -560,7 +597,8 @@ impl Utf8TypedPathBuf {
         self.to_path().absolutize(alloc, directory)
     }
 
-    /// As [`Utf8TypedPath::absolutize_from`].
+    /// Returns the normal path of this path if it is absolute, else that of `directory`, written in
+    /// this path's dialect, with this path pushed onto it. See [`Utf8TypedPath::absolutize_from`].
     pub fn absolutize_from(
         &self,
         alloc: Global,
@@ -573,7 +611,7 @@ impl Utf8TypedPathBuf {
         self.to_path().absolutize_from(alloc, directory)
     }
 
-    /// As [`Utf8TypedPath::with_unix_encoding`].
+    /// Returns the path as on Unix. See [`Utf8TypedPath::with_unix_encoding`].
     pub fn with_unix_encoding(&self, alloc: Global) -> Result<Utf8TypedPathBuf, AllocError>
         ensures dialect { IfOk result (λ p. typed_dialect p ≡ unix) }
         ensures bytes { IfOk result (λ p. owned_bytes p
@@ -582,7 +620,8 @@ impl Utf8TypedPathBuf {
         self.to_path().with_unix_encoding(alloc)
     }
 
-    /// As [`Utf8TypedPath::with_unix_encoding_checked`].
+    /// Returns the path as on Unix, also if it is a Unix path. See
+    /// [`Utf8TypedPath::with_unix_encoding_checked`].
     pub fn with_unix_encoding_checked(&self, alloc: Global) -> Result<Utf8TypedPathBuf, PathError>
         ensures dialect { IfOk result (λ p. typed_dialect p ≡ unix) }
         ensures converted { ConvertsChecked (typed_dialect self.now) unix owned_bytes
@@ -591,7 +630,7 @@ impl Utf8TypedPathBuf {
         self.to_path().with_unix_encoding_checked(alloc)
     }
 
-    /// As [`Utf8TypedPath::with_windows_encoding`].
+    /// Returns the path as on Windows. See [`Utf8TypedPath::with_windows_encoding`].
     pub fn with_windows_encoding(&self, alloc: Global) -> Result<Utf8TypedPathBuf, AllocError>
         ensures dialect { IfOk result (λ p. typed_dialect p ≡ windows) }
         ensures bytes { IfOk result (λ p. owned_bytes p
@@ -600,7 +639,8 @@ impl Utf8TypedPathBuf {
         self.to_path().with_windows_encoding(alloc)
     }
 
-    /// As [`Utf8TypedPath::with_windows_encoding_checked`].
+    /// Returns the path as on Windows, also if it is a Windows path. See
+    /// [`Utf8TypedPath::with_windows_encoding_checked`].
     pub fn with_windows_encoding_checked(&self, alloc: Global) -> Result<Self, PathError>
         ensures dialect { IfOk result (λ p. typed_dialect p ≡ windows) }
         ensures converted { ConvertsChecked (typed_dialect self.now) windows owned_bytes
