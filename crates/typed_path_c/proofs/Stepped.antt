@@ -43,12 +43,6 @@ module _ (path : List ℕ) (held component : Component) (status : ℕ) where
   told_within (Ok (Some c)) within told is = subst (λ x. x.start + x.length ≤ length path) (sym told.1) within
   told_within (Err e) within told is = absurd (omega (arith, is, told.0))
 
--- a step in the dialect that a number names
-pub in_dialect : (taken : List Placed → Option Placed) (left : List Placed → List Placed) (number : ℕ) (path : List ℕ) (old new : Unread) (held component : Component) (status : ℕ) (d : Dialect)
-    → dialect_named number ≡ Some d → StepsIn taken left d path old new held component status → Steps taken left number path old new held component status
-in_dialect taken left number path old new held component status d named steps =
-    subst (λ o. MatchOption o ((status ≡ bad_dialect) × (new ≡ old) × (component ≡ held)) (λ e. StepsIn taken left e path old new held component status)) (sym named) steps
-
 -- a step of numbers that are right
 module _ (taken : List Placed → Option Placed) (left : List Placed → List Placed) (number : ℕ) (path : List ℕ) (old new : Unread) (held component : Component) (status : ℕ)
     (steps : Steps taken left number path old new held component status) (d : Dialect) (named : dialect_named number ≡ Some d) (items : List Placed) (reading : IsReading d path old items) where
