@@ -1,6 +1,7 @@
 //! Steps of a reading that the caller keeps as three numbers.
 
 ghost use Rattle.std.specs.Prelude.{◌≡◌, ◌≤◌, ◌+◌, length, drop, option_map, MatchResult};
+ghost use Rattle.typed_path.specs.components.{windows};
 ghost use Rattle.typed_path.specs.scan.{first_of, last_of, but_last};
 ghost use Rattle.typed_path.specs.typed.{typed_dialect};
 ghost use Rattle.typed_path.specs.views.TypedViews.{typed_bytes};
@@ -42,9 +43,20 @@ fn next(dialect: u32, path: &[u8], reading: &mut Unread, component: &mut Compone
     // A call for each dialect, so that each is compiled for the separators of its own.
     match dialect {
         0 => take_first(TypedPath::unix(path), reading, component),
-        1 => take_first(TypedPath::windows(path), reading, component),
+        1 => take_first_of_windows(path, reading, component),
         _ => BAD_DIALECT,
     }
+}
+
+/// Does what [`typed_path_next`] does, for a Windows path. A call of its own, so that a step on Unix
+/// saves no registers for it.
+#[inline(never)]
+fn take_first_of_windows(path: &[u8], reading: &mut Unread, component: &mut Component) -> u32
+    ensures step { StepsIn first_of (drop 1) windows path.now reading.old reading.new component.old
+        component.new result }
+    ensures within { result ≡ done → component.new.start + component.new.length ≤ length path.now }
+{
+    take_first(TypedPath::windows(path), reading, component)
 }
 
 /// Does what [`typed_path_next`] does, for a path in its dialect.
