@@ -154,7 +154,6 @@ macro_rules! windows_component {
 
         impl<'a> $PrefixComponent<'a> {
             /// The prefix of a path, where the reading of the path told that one stands.
-            #[cold]
             fn taken(path: &'a $Slice, taken: Taken<'a, $Slice>) -> Self {
                 $PrefixComponent { raw: taken.text, parsed: $Prefix::of_kind(path, taken.kind) }
             }
@@ -269,7 +268,11 @@ macro_rules! windows_component {
             /// The prefix of a path, where the reading of the path told its kind.
             fn of_kind(text: &'a $Slice, kind: u32) -> Self {
                 let bytes: &[u8] = text.as_ref();
-                let (first, second) = ffi::prefix_names(WINDOWS, bytes).unwrap_or_default();
+                let (first, second) = match kind {
+                    // A letter and a colon.
+                    kind::DISK => (0..1, 0..0),
+                    _ => ffi::prefix_names(WINDOWS, bytes).unwrap_or_default(),
+                };
                 let letter = || <$Letter>::from(bytes[first.start].to_ascii_uppercase());
                 match kind {
                     kind::VERBATIM => $Prefix::Verbatim(&text[first]),
