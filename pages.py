@@ -52,6 +52,7 @@ LEFT_OUT = {
     ("bindings/python/README.md", ">>>"): "run by bindings/test.sh",
     ("bindings/python/README.md", "TYPED_PATH_DIR="): "takes what bindings/c/build.sh lays out, and pip",
     ("bindings/rust/README.md", "typed-path = "): "stands in a Cargo.toml, as bindings/rust/test.sh tries",
+    ("bindings/rust/README.md", "use typed_path::UnixPath;"): "run by bindings/rust/test.sh",
     ("bindings/rust/README.md", "[patch.crates-io]"): "stands in a Cargo.toml, as bindings/rust/test.sh tries",
     ("bindings/rust/README.md", "bindings/c/build.sh DIR"): "proves the calls for C, as bindings/test.sh does",
     ("bindings/rust/README.md", "cd bindings/rust && "): "takes what that lays out, as bindings/rust/test.sh does",

@@ -56,7 +56,7 @@ has_number() {
     number=$(dpkg-query -W -f '${Version}' typath) && typath --version | grep -F "typath ${number%-*},"
 }
 has_origin() {
-    typath --version | grep -E '^commit: [0-9a-f]{40}' && typath --version | grep -E '^kit: rattle-kit-'
+    typath --version | grep -E '^commit: +[0-9a-f]{40}' && typath --version | grep -E '^kit: +rattle-kit-'
 }
 reads_page() {
     man "$@" 2> "$room/warned" | grep -E '^(TYPATH|TYPED_PATH)\('

@@ -18,6 +18,10 @@ DESTDIR=$stage "$top/bindings/c/install.sh" --from "$laid" --libdir "${libdir#us
 rm -r "$stage/usr/share/typed_path" "$stage"/usr/share/doc/typed_path/LICENSE-*
 mkdir -p "$stage/$modules" "$stage/usr/share/doc/libtyped-path-dev"
 mv "$stage/usr/share/doc/typed_path/examples" "$stage/usr/share/doc/libtyped-path-dev/"
+cp "$top"/docs/*.{md,svg} "$stage/usr/share/doc/libtyped-path-dev/"
+mkdir -p "$stage/usr/share/doc/python3-typed-path"
+cp -r "$top"/bindings/python/{README.md,examples} "$stage/usr/share/doc/python3-typed-path/"
+find "$stage/usr/share/doc/python3-typed-path" -name __pycache__ -prune -exec rm -r {} +
 find "$stage/usr/share/man" -type f -exec gzip -9n {} +
 python3 -m zipfile -e "$out"/typed_path-*.whl "$stage/$modules"
 rm -f "$stage/$modules"/typed_path-*/{RECORD,LICENSE*}
@@ -86,5 +90,5 @@ sed -e "s/@KEPT@/$kept/g; s/@VERSION@/$version/g; s/@PYTHON@/$python/g; s/@LIBC@
 package "libtyped-path$kept" "$libdir/libtyped_path.so.$kept"
 package libtyped-path-dev usr/include "$libdir" usr/share/man/man3 usr/share/doc/libtyped-path-dev
 package typath usr/bin usr/share/man/man1 usr/share/bash-completion
-package python3-typed-path usr/lib/python3
+package python3-typed-path usr/lib/python3 usr/share/doc/python3-typed-path
 find "$stage" -type f | sed "s|^$stage|packages.sh: no package has |" >&2

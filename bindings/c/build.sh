@@ -15,8 +15,8 @@ done
 # Writes what is known of a field over the text that `typath --version` prints of it, in as many bytes.
 note() {
     local blank known
-    printf -v blank '%s: %-53s' "$2" 'not noted'
-    printf -v known '%s: %-53s' "$2" "$3"
+    printf -v blank '%s:%54s' "$2" 'not noted'
+    printf -v known '%s:%54s' "$2" "$3"
     LC_ALL=C sed -i "s/$blank/$known/" "$1"
     [[ $("$1" --version) == *"$known"* ]] || stopped "$1 does not say its $2"
 }

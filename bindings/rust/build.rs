@@ -39,8 +39,8 @@ fn archive_folder() -> PathBuf {
     }
     panic!(
         "there is no archive of the proved library for {target}. Lay one out with bindings/c/build.sh DIR of its \
-         repository and set TYPED_PATH_DIR=DIR, or install it with bindings/c/install.sh PREFIX so that pkg-config \
-         finds typed_path, or put {ARCHIVE} into {}",
+         repository and set TYPED_PATH_DIR=DIR, or install it, by libtyped-path-dev of a release or bindings/c/install.sh \
+         PREFIX, so that pkg-config finds typed_path, or put {ARCHIVE} into {}",
         folder.display()
     );
 }

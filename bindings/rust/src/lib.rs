@@ -97,3 +97,8 @@ pub use platform::*;
 pub use typed::*;
 pub use unix::*;
 pub use windows::*;
+
+/// The example of the README.
+#[cfg(doctest)]
+#[doc = include_str!("../README.md")]
+struct Readme;

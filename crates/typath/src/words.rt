@@ -35,8 +35,8 @@ refused or the program was called with other words than --help or -h, --version 
 /// built program, over what is not noted, of which commit and by which kit that was built.
 pub const VERSION: &str = "\
 typath 0.2.1, a program over typed_path, which ports typed-path 0.13.0\n\
-commit: not noted                                            \n\
-kit: not noted                                            \n";
+commit:                                             not noted\n\
+kit:                                             not noted\n";
 
 /// What is printed if the words ask for nothing that exists.
 pub const USAGE: &str =
