@@ -12,11 +12,13 @@ here=$(cd "$(dirname "$0")" && pwd)
 for needed in rt cc ld objcopy; do
     command -v "$needed" > /dev/null || misused "there is no $needed"
 done
+
 # Writes what is known of a field over the text that `typath --version` prints of it, in as many bytes.
 note() {
     local blank known
     printf -v blank '%s:%54s' "$2" 'not noted'
     printf -v known '%s:%54s' "$2" "$3"
+    [[ ${#known} -eq ${#blank} ]] || stopped "$1 has no room for its $2: $3"
     LC_ALL=C sed -i "s/$blank/$known/" "$1"
     [[ $("$1" --version) == *"$known"* ]] || stopped "$1 does not say its $2"
 }
