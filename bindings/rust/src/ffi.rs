@@ -141,7 +141,7 @@ impl<'a, S: Slice + ?Sized> Left<'a, S> {
     #[inline]
     pub fn slice(&self) -> &'a S {
         // SAFETY: the numbers are those of a reading of this path, so they lie in it, in their order; and each is an
-        // end of the path or of a component, or stands beside a separator or a dot, which are of one byte.
+        // end of the path, or stands beside a separator, a dot or the colon of a drive, which are of one byte.
         unsafe { self.path.part(self.reading.from..self.reading.to) }
     }
 
@@ -178,7 +178,7 @@ impl<'a, S: Slice + ?Sized> Left<'a, S> {
             return None;
         }
         // SAFETY: a step that was done has set the component, which ends in the path; and it begins and ends where
-        // the path does, or beside a separator, which is of one byte.
+        // the path does, or beside a separator or the colon of a drive, which are of one byte.
         unsafe {
             let Placed { start, length, kind } = placed.assume_init();
             Some(Taken { kind, text: self.path.part(start..start + length) })
