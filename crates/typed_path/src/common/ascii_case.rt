@@ -125,6 +125,7 @@ fn compare_lowered<T: Encoding>(path: &[u8], other: &[u8]) -> Ordering
 }
 
 /// Returns the order of what two bodies have left in lower case, component by component.
+#[inline(always)]
 fn compare_each_lowered(mut rest: Body<'_>, mut wanted: Body<'_>) -> Ordering
     ensures { result ≡ lowered_cmp (body_items rest.entry) (body_items wanted.entry) }
 {

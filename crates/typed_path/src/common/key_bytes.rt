@@ -44,8 +44,13 @@ fn put_words<T: Encoding>(path: &[u8], out: &mut [u8]) -> usize
     ensures { IsPutFrom 0 (key_bytes T.dialect path.now) out.old out.new result }
 {
     let cursor = T::cursor(path);
-    let mut at = put_prefix(out, 0, cursor.prefix());
+    let start = put_prefix(out, 0, cursor.prefix());
     let mut body = cursor.body();
+    // A root needs no search.
+    let mut at = match body.root() {
+        Some(root) => put_step(out, start, root),
+        None => start,
+    };
     'steps: while let Some(step) = body.front() {
         at = put_step(out, at, step);
     }

@@ -1,7 +1,8 @@
 //! A cursor over the components of a path, which takes them from both ends.
 
-ghost use Rattle.std.specs.Prelude.{◌≡◌, ◌≤◌, ◌-◌, ℕ, List, length, slice_range, true, [], take, drop, option_map, is_some, Some, None, IfSome, IfNone, IsTrue};
-ghost use Rattle.typed_path.specs.components.{Dialect, prefix_part, body, comps, component, Placed, end_of, kinds, parts, windows, dialect_of, later_body};
+ghost use Rattle.std.specs.Prelude.{◌≡◌, ◌≤◌, ◌<◌, ◌-◌, ℕ, List, length, slice_range, true, [], take, drop, option_map, is_some, Some, None, IfSome, IfNone, IsTrue};
+ghost use Rattle.std.specs.List.{position_or_len};
+ghost use Rattle.typed_path.specs.components.{Dialect, prefix_part, body, comps, component, Placed, end_of, kinds, parts, windows, dialect_of, is_separator, later_body};
 ghost use Rattle.typed_path.specs.views.PieceViews.{part_of, prefix_view, step_part};
 ghost use Rattle.typed_path.specs.scan.{pending, is_clean, but_last, last_of, slice_after_front, slice_after_back, first_part, last_part, end_from, first_of, is_unread, unread_items, unread_slice};
 
@@ -36,6 +37,20 @@ macro_rules! rest {
             to: $cursor.to,
             begin: $cursor.begin,
             separators: $cursor.separators,
+        }
+    };
+}
+
+/// The cursor over a [`Body`], with the prefix before it if that is still to be taken.
+macro_rules! over {
+    ($body:expr, $prefix:expr) => {
+        Cursor {
+            text: $body.text,
+            from: $body.from,
+            to: $body.to,
+            prefix: $prefix,
+            begin: $body.begin,
+            separators: $body.separators,
         }
     };
 }
@@ -205,14 +220,7 @@ impl<'a> Cursor<'a> {
             None => {
                 let mut body = rest!(self);
                 let step = body.front();
-                *self = Cursor {
-                    text: body.text,
-                    from: body.from,
-                    to: body.to,
-                    prefix: None,
-                    begin: body.begin,
-                    separators: body.separators,
-                };
+                *self = over!(body, None);
                 Some(step?.piece())
             }
         }
@@ -244,14 +252,7 @@ impl<'a> Cursor<'a> {
     {
         let mut body = rest!(self);
         if let Some(step) = body.back() {
-            *self = Cursor {
-                text: body.text,
-                from: body.from,
-                to: body.to,
-                prefix: self.prefix,
-                begin: body.begin,
-                separators: body.separators,
-            };
+            *self = over!(body, self.prefix);
             return Some(step.piece());
         }
         let found = self.prefix?;
@@ -599,15 +600,53 @@ impl<'a> Body<'a> {
         ensures separators { self.new.separators ≡ self.old.separators }
         ensures text { self.new.text ≡ self.old.text }
     {
-        let left = self.as_bytes();
-        if left.is_empty() {
+        if self.as_bytes().is_empty() {
             return None;
         }
         let end = self.separators.first_within(self.text, self.from, self.to);
+        Some(self.take_segment(end))
+    }
+
+    /// Takes the root and returns it, or `None` if another component or none is left first. It
+    /// needs no search, unlike [`Body::front`].
+    #[inline(always)]
+    pub fn root(&mut self) -> Option<Step<'a>>
+        ensures rooted { is_some result ≡ begins_with_root (kinds (parts (body_items self.old))) }
+        ensures taken { IfSome result (λ step. Some (step_part step) ≡ first_part (body_items self.old)) }
+        ensures items { IfSome result (λ _. body_items self.new ≡ drop 1 (body_items self.old)) }
+        ensures slice { IfSome result (λ _. body_slice self.new
+            ≡ slice_after_front (body_items self.old) (body_slice self.old)) }
+        ensures kept { IfNone result (self.new ≡ self.old) }
+        ensures separators { self.new.separators ≡ self.old.separators }
+        ensures text { self.new.text ≡ self.old.text }
+    {
+        if !self.has_physical_root() {
+            return None;
+        }
+        Some(self.take_segment(0))
+    }
+
+    /// Takes the first component left and returns it. Its segment ends at index `end` of the slice
+    /// left.
+    #[inline(always)]
+    fn take_segment(&mut self, end: usize) -> Step<'a>
+        requires some { 0 < length (body_slice self.old) }
+        requires within { end ≤ length (body_slice self.old) }
+        requires ends { end ≡ position_or_len (is_separator self.old.separators) (body_slice self.old) }
+        ensures taken { Some (step_part result) ≡ first_part (body_items self.old) }
+        ensures items { body_items self.new ≡ drop 1 (body_items self.old) }
+        ensures slice { body_slice self.new
+            ≡ slice_after_front (body_items self.old) (body_slice self.old) }
+        ensures named { result.kind ≡ StepKind.Normal
+            → take (length result.text.now) (drop self.old.from self.old.text.now) ≡ result.text.now }
+        ensures separators { self.new.separators ≡ self.old.separators }
+        ensures text { self.new.text ≡ self.old.text }
+    {
+        let left = self.as_bytes();
         let (step, taken) = front_step(left, end, self.separators);
         self.from += taken;
         self.begin = Begin::Inside;
-        Some(step)
+        step
     }
 
     /// Takes the last component left and returns it, or `None` if none is left.

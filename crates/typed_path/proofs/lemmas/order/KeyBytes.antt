@@ -183,6 +183,10 @@ module _ (all old : List ℕ) where
     put = put;
   }
 
+  -- the same, by other names
+  pub moved : (cs : List Placed) (out new : List ℕ) (at end : ℕ) → new ≡ out → end ≡ at → IsPutSoFar all old cs out at → IsPutSoFar all old cs new end
+  moved cs out new at end same there so_far = subst (λ o. IsPutSoFar all old cs o end) (sym same) (subst (λ n. IsPutSoFar all old cs out n) (sym there) so_far)
+
   -- which has no more bytes than all
   pub first_fits : (cs : List Placed) (o : Option Prefix) → all ≡ concat (fed_keys cs) → o ≡ first_prefix (kinds (parts cs)) → length (concat (key_words_before o)) ≤ length all
   first_fits cs o e first =

@@ -1,37 +1,60 @@
-use Rattle.std.proofs.Common.{option_map, sym, ap, arith}
+use Rattle.std.proofs.Common.{option_map, sym, ap, arith, subst}
 use Rattle.std.specs.List.{concat}
 use Rattle.typed_path.specs.order.{key_bytes}
 use Rattle.typed_path.specs.views.BodyViews.{body_items}
 use Rattle.typed_path.specs.views.CursorViews.{items_left}
 use Rattle.typed_path.specs.views.PieceViews.{prefix_view, step_part}
-use Rattle.typed_path.proofs.lemmas.order.KeyBytes.{key_bytes_size, first_fits, put_first, more_fits, put_more, last_fits, put_last}
+use Rattle.typed_path.proofs.lemmas.order.KeyBytes.{IsPutSoFar, key_bytes_size, first_fits, put_first, more_fits, put_more, last_fits, put_last, moved}
 use Rattle.typed_path.proofs.lemmas.order.KeyWords.{fed_keys}
 use Rattle.typed_path.proofs.common.key_bytes.put_words.Goals as goal
+use Rattle.typed_path.proofs.common.key_bytes.put_words.Goals.{in-Some, in-None}
 
-pub put_prefix-at-requires : goal.put_prefix-at-requires
-put_prefix-at-requires g c =
+pub put_prefix-start-requires : goal.put_prefix-start-requires
+put_prefix-start-requires g c =
     let d = g.T.Encoding.dialect in
     let path = c.args.path.now in
     let fits = first_fits (key_bytes d path) c.args.out.now (items_left c.cursor-cursor.result) (option_map prefix_view c.prefix.result) (ap (λ xs. concat (fed_keys xs)) (sym c.cursor-cursor.ensures.items)) c.prefix.ensures in
     omega (arith, fits, key_bytes_size d path, c.well_formed.0.1)
 
-pub steps-init : goal.steps-init
-steps-init g c =
-    let cs = items_left c.cursor-cursor.result in
-    put_first (key_bytes g.T.Encoding.dialect c.args.path.now) c.args.out.now cs (body_items c.body-body.result) (option_map prefix_view c.prefix.result) c.put_prefix-at.new.out c.put_prefix-at.result
-    (ap (λ xs. concat (fed_keys xs)) (sym c.cursor-cursor.ensures.items)) c.prefix.ensures c.body-body.ensures c.put_prefix-at.ensures
-
 pub put_step-at-requires : goal.put_step-at-requires
 put_step-at-requires g c =
+    let all = key_bytes g.T.Encoding.dialect c.args.path.now in
+    let old = c.args.out.now in
+    let before = body_items c.body-body.result in
+    let begun = put_first all old (items_left c.cursor-cursor.result) before (option_map prefix_view c.prefix.result) c.put_prefix-start.new.out c.put_prefix-start.result
+    (ap (λ xs. concat (fed_keys xs)) (sym c.cursor-cursor.ensures.items)) c.prefix.ensures c.body-body.ensures c.put_prefix-start.ensures in
+    let fits = more_fits all old before (step_part c.in-Some.root) c.put_prefix-start.new.out c.put_prefix-start.result c.in-Some.ensures.taken begun in
+    omega (arith, fits, key_bytes_size g.T.Encoding.dialect c.args.path.now, c.well_formed.0.1)
+
+pub steps-init : goal.steps-init
+steps-init g c =
+    let all = key_bytes g.T.Encoding.dialect c.args.path.now in
+    let old = c.args.out.now in
+    let before = body_items c.body-body.result in
+    let begun = put_first all old (items_left c.cursor-cursor.result) before (option_map prefix_view c.prefix.result) c.put_prefix-start.new.out c.put_prefix-start.result
+    (ap (λ xs. concat (fed_keys xs)) (sym c.cursor-cursor.ensures.items)) c.prefix.ensures c.body-body.ensures c.put_prefix-start.ensures in
+    let behind = body_items c.root.new.self in
+    elim c.match-root.branch [
+      | in-Some w ↦
+          let put = put_more all old before behind (step_part w.in-Some.root) c.put_prefix-start.new.out w.put_step-at.new.out c.put_prefix-start.result w.put_step-at.result
+          w.in-Some.ensures.taken w.in-Some.ensures.items begun w.put_step-at.ensures in
+          moved all old behind w.put_step-at.new.out c.match-root.out w.put_step-at.result c.match-root.at w.out-is w.at-is put
+      | in-None w ↦
+          let none = subst (λ b. IsPutSoFar all old (body_items b) c.put_prefix-start.new.out c.put_prefix-start.result) (sym w.in-None.ensures.kept) begun in
+          moved all old behind c.put_prefix-start.new.out c.match-root.out c.put_prefix-start.result c.match-root.at w.out-is w.at-is none
+    ]
+
+pub put_step-at-requires-in-Some-front : goal.put_step-at-requires-in-Some-front
+put_step-at-requires-in-Some-front g c =
     let d = g.T.Encoding.dialect in
     let path = c.args.path.now in
-    let fits = more_fits (key_bytes d path) c.args.out.now (body_items c.steps.body) (step_part c.in-Some.step) c.steps.out c.steps.at c.in-Some.ensures.taken c.steps.invariant in
+    let fits = more_fits (key_bytes d path) c.args.out.now (body_items c.steps.body) (step_part c.in-Some-front.step) c.steps.out c.steps.at c.in-Some-front.ensures.taken c.steps.invariant in
     omega (arith, fits, key_bytes_size d path, c.well_formed.0.1)
 
 pub steps-preserved : goal.steps-preserved
 steps-preserved g c =
-    put_more (key_bytes g.T.Encoding.dialect c.args.path.now) c.args.out.now (body_items c.steps.body) (body_items c.front.new.self) (step_part c.in-Some.step)
-    c.steps.out c.put_step-at.new.out c.steps.at c.put_step-at.result c.in-Some.ensures.taken c.in-Some.ensures.items c.steps.invariant c.put_step-at.ensures
+    put_more (key_bytes g.T.Encoding.dialect c.args.path.now) c.args.out.now (body_items c.steps.body) (body_items c.front.new.self) (step_part c.in-Some-front.step)
+    c.steps.out c.put_step-at-in-Some-front.new.out c.steps.at c.put_step-at-in-Some-front.result c.in-Some-front.ensures.taken c.in-Some-front.ensures.items c.steps.invariant c.put_step-at-in-Some-front.ensures
 
 pub put_bytes-requires : goal.put_bytes-requires
 put_bytes-requires g c =

@@ -4,8 +4,8 @@ use Rattle.typed_path.specs.components.{later_body, component}
 use Rattle.typed_path.specs.scan.{slice_after_front, body_from}
 use Rattle.typed_path.specs.views.PieceViews.{step_part}
 use Rattle.typed_path.proofs.lemmas.components.Segments.{slice_after_front-first}
-use Rattle.typed_path.proofs.scan.cursor.Body.front.Goals as goal
-use Rattle.typed_path.proofs.scan.cursor.Body.front.Goals.{After-front_step-taken}
+use Rattle.typed_path.proofs.scan.cursor.Body.take_segment.Goals as goal
+use Rattle.typed_path.proofs.scan.cursor.Body.take_segment.Goals.{After-front_step-taken}
 use Rattle.typed_path.proofs.lemmas.lists.Lists.{slice_range-later}
 
 -- the slice behind the step
