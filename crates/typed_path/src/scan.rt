@@ -12,9 +12,9 @@ mod unread;
 
 pub use cursor::{Begin, Body, Cursor, Span};
 pub use cut::{
-    are_apart, base_end, bodies_behind_shared, cut_at, cut_at_separator, end_behind,
-    have_other_fronts, order_behind, order_of_beginning, order_of_fronts, rests_behind_shared,
-    shared_front, text_behind, texts_behind,
+    are_apart, base_end, bodies_behind_shared, cut_at, end_behind, have_other_fronts, order_behind,
+    order_of_beginning, order_of_fronts, rests_behind_shared, shared_front, text_behind,
+    texts_behind,
 };
 pub use devices::{is_taken_for_device, may_be_device};
 pub use lanes::{
@@ -30,7 +30,8 @@ pub use prefix::{
     keeps_prefix, parted_drive,
 };
 pub use separators::{
-    Look, Separators, has_forbidden_or_device, has_valid_names, is_free_of, look_at_path,
+    Look, Separators, cut_at_separator, has_forbidden_or_device, has_valid_names, is_free_of,
+    look_at_path,
 };
 pub use step::{Piece, PieceKind, Step, StepKind, is_dots, step_of};
 pub use unread::{PlacedPiece, Unread};

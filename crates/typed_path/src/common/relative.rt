@@ -1,21 +1,21 @@
 //! The path from a base to another path: as a look at the bytes of both tells, or else name by name
 //! from the back. What is read from the back is written backwards, and reversed at the end. Which
-//! names are kept, and which `..` unmatched, is said in `within`. If allocation fails, a call that
+//! names are kept, and which `..` unmatched, is said in `lead`. If allocation fails, a call that
 //! appends may leave a part of it.
 
 ghost use Rattle.std.specs.Prelude.{◌≡◌, ◌+◌, ◌*◌, ◌-◌, ◌++◌, ◌∷◌, ◌<◌, ◌≤◌, ◌^◌, ◌==◌, ◌&&◌, not, false, nat_le, [], length, take, drop, reverse, option_map, if◌then◌else◌, None, IfOk, IsOk, OnOk, MatchOption, Bool, List, ℕ, Some, IfSome};
 ghost use Rattle.std.specs.Vec.{vec_len, vec_capacity};
 ghost use Rattle.typed_path.specs.components.{kinds, parts, parts_of, body, is_separator, is_verbatim};
-ghost use Rattle.typed_path.specs.places.{AreSteps, IsLast, bare_separators, can_stand, dots, is_reached, kept_names, names_under, relative_text, row_end, rows_of, shared_count, steps_text, AreAlone, AreNearSteps, PartInNames, is_anchored, same_heads};
+ghost use Rattle.typed_path.specs.places.{AreSteps, IsLast, bare_separators, can_stand, dots, is_reached, kept_names, names_under, relative_text, row_end, rows_of, shared_count, steps_text, AreAlone, AreNearSteps, PartInNames, same_heads};
 ghost use Rattle.typed_path.specs.views.BodyViews.{body_items};
 ghost use Rattle.typed_path.specs.views.CursorViews.{items_left};
 ghost use Rattle.std.specs.List.{slice_split};
 
 use crate::common::encoding::Encoding;
+use crate::common::lead::{Lead, begins_rooted, last_name, lead_of};
 use crate::common::order::have_same_prefixes;
 use crate::common::path_buf::PathBuf;
 use crate::common::rows::{put_apart, put_row, put_turned_where, row_end};
-use crate::common::within::{Lead, last_name, lead_of};
 use crate::common::writing::drop_separator;
 use crate::scan::{Body, Cursor, Separators, cut_at_separator, leading_names, rests_behind_shared};
 use std::alloc::{AllocError, Global};
@@ -80,15 +80,6 @@ fn have_same_heads(own: Cursor<'_>, other: Cursor<'_>) -> bool
         (kinds (parts (items_left other.entry))) }
 {
     have_same_prefixes(own.prefix(), other.prefix()) && begins_rooted(own) == begins_rooted(other)
-}
-
-/// Whether a path is anchored: it begins with a root, written or implied by a prefix other than a
-/// drive `C:`.
-#[inline(always)]
-fn begins_rooted(cursor: Cursor<'_>) -> bool
-    ensures { result ≡ is_anchored (kinds (parts (items_left cursor.entry))) }
-{
-    cursor.has_implicit_root() || cursor.has_physical_root()
 }
 
 /// Returns the steps of [`near_steps`] between what two paths have after their prefixes. `None`

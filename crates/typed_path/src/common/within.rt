@@ -1,24 +1,22 @@
-//! Whether a path lies at another or below it, and what two paths begin with.
-//!
-//! Of a path it matters which `..` are unmatched, and which names are kept. A `..` cancels the
-//! nearest name before it that no other one has cancelled; it is unmatched if there is none. A name
-//! is kept if no `..` cancels it.
+//! Whether a path lies at another or below it, and what two paths begin with. Which names are kept,
+//! and which `..` unmatched, is said in `lead`.
 
-ghost use Rattle.std.specs.Prelude.{◌≡◌, ◌+◌, ◌++◌, ◌∷◌, ◌<◌, ◌≤◌, ◌^◌, ◌&&◌, ◌==◌, not, nat_le, [], length, MatchOption, ℕ, IfSome, if◌then◌else◌};
+ghost use Rattle.std.specs.Prelude.{◌≡◌, ◌+◌, ◌<◌, ◌≤◌, ◌^◌, ◌&&◌, ◌==◌, not, nat_le, length, IfSome, if◌then◌else◌};
 ghost use Rattle.std.specs.List.{starts_with};
 ghost use Rattle.std.specs.Str.{bytes_eq};
 ghost use Rattle.typed_path.specs.components.{kinds, parts};
-ghost use Rattle.typed_path.specs.places.{is_anchored, is_within, kept_names, names_under, unmet, unmet_under};
+ghost use Rattle.typed_path.specs.places.{is_within, kept_names};
 ghost use Rattle.typed_path.specs.views.BodyViews.{body_items};
 ghost use Rattle.typed_path.specs.views.CursorViews.{items_left};
 ghost use Rattle.typed_path.specs.queries.{IsSharedEnd, shared_end};
 ghost use Rattle.typed_path.specs.views.PathViews.{path_bytes};
 
 use crate::common::encoding::Encoding;
+use crate::common::lead::{Lead, last_name, lead_of};
 use crate::common::order::have_same_prefixes;
 use crate::common::path::Path;
 use crate::common::relative::{bare_separators, near_steps};
-use crate::scan::{Body, Cursor, StepKind, shared_front};
+use crate::scan::{Body, Cursor, shared_front};
 
 /// Whether `path` lies at `base` or below it, from whatever directory both are read: a `..` cancels
 /// the name before it, and one without such a name leads above where the path begins, or after a
@@ -54,69 +52,6 @@ fn within_by_components<T: Encoding>(path: &[u8], base: &[u8]) -> bool
     begin_alike(own.body(), other.body(), lead.names - wanted.names)
 }
 
-/// Where a path leads, without its prefix and the names themselves.
-#[derive(Clone, Copy)]
-pub(crate) struct Lead {
-    /// Whether it is anchored: it begins with a root, written or implied by a prefix other than a
-    /// drive `C:`.
-    pub is_anchored: bool,
-    /// How many `..` are unmatched: they have no name to cancel.
-    pub unmet: usize,
-    /// How many names are kept: no `..` cancels them.
-    pub names: usize,
-}
-
-impl Lead {
-    /// Returns how many `..` lead above where the path begins: the unmatched ones, or none if it is
-    /// anchored.
-    #[inline(always)]
-    pub(crate) fn rising(self) -> usize
-        ensures { result ≡ (if self.is_anchored then 0 else self.unmet) }
-    {
-        if self.is_anchored { 0 } else { self.unmet }
-    }
-}
-
-/// Returns where a path leads, counted over all its components.
-#[tactic(auto, using(crate::proofs::lemmas::places::KeptFromBack::few_behind_prefix, crate::proofs::lemmas::places::KeptFromBack::kept_behind_prefix, crate::proofs::lemmas::places::KeptFromBack::unmet_behind_prefix))]
-#[inline(always)]
-pub(crate) fn lead_of(cursor: Cursor<'_>) -> Lead
-    requires { length (items_left cursor) < 2 ^ 64 }
-    ensures anchored { result.is_anchored ≡ is_anchored (kinds (parts (items_left cursor.entry))) }
-    ensures unmet { result.unmet ≡ unmet (kinds (parts (items_left cursor.entry))) }
-    ensures names { result.names
-        ≡ length (kept_names (kinds (parts (items_left cursor.entry)))) }
-{
-    let depth = depth_of(cursor.body());
-    Lead {
-        is_anchored: cursor.has_implicit_root() || cursor.has_physical_root(),
-        unmet: depth.unmet,
-        names: depth.names,
-    }
-}
-
-/// How many `..` of a path are unmatched, and how many names are kept.
-#[derive(Clone, Copy)]
-struct Depth {
-    unmet: usize,
-    names: usize,
-}
-
-/// Counts the unmatched `..` and the kept names of what is left.
-#[inline(always)]
-fn depth_of(mut rest: Body<'_>) -> Depth
-    requires { length (body_items rest) < 2 ^ 64 }
-    ensures unmet { result.unmet ≡ unmet (kinds (parts (body_items rest.entry))) }
-    ensures names { result.names ≡ length (kept_names (kinds (parts (body_items rest.entry)))) }
-{
-    let mut owed = 0;
-    let mut names = 0;
-    'names: while last_name(&mut rest, &mut owed).is_some() {
-        names += 1;
-    }
-    Depth { unmet: owed, names }
-}
-
 /// Whether `base`, whose prefix is that of `own`, if any, has no kept names, and contains `own`
 /// since that leads no higher. A root without a prefix contains every path without one; a base that
 /// is not anchored contains those that are not either, and have no more unmatched `..`.
@@ -140,34 +75,6 @@ fn leads_alike(own: Lead, base: Lead) -> bool
         == (if base.is_anchored then 0 else base.unmet))) }
 {
     own.is_anchored == base.is_anchored && (own.is_anchored || own.unmet == base.unmet)
-}
-
-/// Takes names and `..` from the back up to the last kept name, and returns that; `None` if no kept
-/// name is left. `owed` counts the `..` taken so far that have yet to cancel a name.
-#[inline(always)]
-pub(crate) fn last_name<'a>(rest: &mut Body<'a>, owed: &mut usize) -> Option<&'a [u8]>
-    requires { owed.old + length (body_items rest.old) < 2 ^ 64 }
-    ensures name { MatchOption result (names_under owed.old (body_items rest.old) ≡ [])
-        (λ name. names_under owed.old (body_items rest.old)
-        ≡ names_under owed.new (body_items rest.new) ++ name.now ∷ []) }
-    ensures unmet { unmet_under owed.new (body_items rest.new)
-        ≡ unmet_under owed.old (body_items rest.old) }
-    ensures within { owed.new + length (body_items rest.new)
-        ≤ owed.old + length (body_items rest.old) }
-    ensures taken { IfSome result (λ _. owed.new + length (body_items rest.new)
-        < owed.old + length (body_items rest.old)) }
-    ensures end { MatchOption result (owed.new ≡ unmet_under owed.old (body_items rest.old))
-        (λ _. ℕ) }
-{
-    'steps: while let Some(step) = rest.back() {
-        match step.kind {
-            StepKind::ParentDir => *owed += 1,
-            StepKind::Normal if *owed == 0 => return Some(step.text),
-            StepKind::Normal => *owed -= 1,
-            _ => {}
-        }
-    }
-    None
 }
 
 /// Whether the kept names of a path begin with those of a base; the path has `deeper` more.

@@ -1,5 +1,5 @@
-//! Bytes split at a byte or a separator, stripped of a beginning or a base, and compared from their
-//! first difference on.
+//! Bytes split at a byte, stripped of a beginning or a base, and compared from their first difference
+//! on.
 //!
 //! A body is what a path has after its prefix. Two bodies share the bytes before their first
 //! difference, and the separators among these.
@@ -31,27 +31,6 @@ pub fn cut_at(byte: u8, text: &[u8]) -> Option<(&[u8], &[u8])>
     ensures shorter { IfSome result (λ cut. length cut.1.now < length text.now) }
 {
     let at = first_between(text, 0, text.len(), (byte, byte));
-    if at < text.len() {
-        return Some((&text[..at], &text[at + 1..]));
-    }
-    None
-}
-
-/// Returns the bytes before and after the first separator, or `None` if there is none.
-#[inline(always)]
-pub fn cut_at_separator(separators: Separators, text: &[u8]) -> Option<(&[u8], &[u8])>
-    ensures pieces { MatchOption result
-        (slice_split (is_separator separators) text.now ≡ text.now ∷ [])
-        (λ cut. slice_split (is_separator separators) text.now
-        ≡ cut.0.now ∷ slice_split (is_separator separators) cut.1.now) }
-    ensures open { IfSome result
-        (λ cut. slice_split (is_separator separators) cut.0.now ≡ cut.0.now ∷ []) }
-    ensures sizes { IfSome result
-        (λ cut. length text.now ≡ length cut.0.now + 1 + length cut.1.now) }
-    ensures front { IfSome result (λ cut. take (length cut.0.now) text.now ≡ cut.0.now) }
-{
-    // Inlined: a call for each segment would cost more than it saves.
-    let at = separators.first_in(text);
     if at < text.len() {
         return Some((&text[..at], &text[at + 1..]));
     }

@@ -1,6 +1,6 @@
 //! The separators of a path, searches for them, and which names may stand between them.
 
-ghost use Rattle.std.specs.Prelude.{◌≡◌, ◌≤◌, ◌<◌, ◌+◌, ◌-◌, ◌*◌, ◌^◌, ◌==◌, ◌||◌, ◌&&◌, ℕ, not, length, true, drop, slice_range, slice_index, false, IsTrue, IsFalse};
+ghost use Rattle.std.specs.Prelude.{◌≡◌, ◌≤◌, ◌<◌, ◌+◌, ◌-◌, ◌*◌, ◌^◌, ◌==◌, ◌||◌, ◌&&◌, ◌∷◌, [], ℕ, not, length, true, take, drop, slice_range, slice_index, false, IsTrue, IsFalse, IfSome, MatchOption};
 ghost use Rattle.std.specs.Int.{bit_at};
 ghost use Rattle.std.specs.List.{position_or_len, list_any, before_first, IsAfterLastMatch, slice_split};
 ghost use Rattle.std.specs.Char.{to_ascii_lowercase};
@@ -10,7 +10,6 @@ ghost use Rattle.typed_path.specs.queries.{has_allowed_bytes, is_reserved, is_va
 ghost use Rattle.std.specs.Slice.Scan.{HoldsNowhere};
 ghost use Rattle.typed_path.specs.changes.{AreMayBegins, BeginsNone, TellsBegins, SeparatesDisallowed, is_stray, is_bare_device, is_numbered_device, is_device, is_forbidden_or, has_stray_of, stray_of_at, dot_pair_at, has_dot_pair, begins_like_device, begins_with_device, is_in, ends_stem, may_end_stem, has_device, has_device_behind};
 
-use crate::scan::cut::cut_at_separator;
 use crate::scan::lanes::{
     first_between, has_forbidden, has_no_nul_or_dot_pair, is_forbidden_in_32, is_one_of,
     last_between, letters_at, lowest, marks_at,
@@ -192,6 +191,27 @@ impl Separators {
     {
         last_between(bytes, 0, bytes.len(), self.pair())
     }
+}
+
+/// Returns the bytes before and after the first separator, or `None` if there is none.
+#[inline(always)]
+pub fn cut_at_separator(separators: Separators, text: &[u8]) -> Option<(&[u8], &[u8])>
+    ensures pieces { MatchOption result
+        (slice_split (is_separator separators) text.now ≡ text.now ∷ [])
+        (λ cut. slice_split (is_separator separators) text.now
+        ≡ cut.0.now ∷ slice_split (is_separator separators) cut.1.now) }
+    ensures open { IfSome result
+        (λ cut. slice_split (is_separator separators) cut.0.now ≡ cut.0.now ∷ []) }
+    ensures sizes { IfSome result
+        (λ cut. length text.now ≡ length cut.0.now + 1 + length cut.1.now) }
+    ensures front { IfSome result (λ cut. take (length cut.0.now) text.now ≡ cut.0.now) }
+{
+    // Inlined: a call for each segment would cost more than it saves.
+    let at = separators.first_in(text);
+    if at < text.len() {
+        return Some((&text[..at], &text[at + 1..]));
+    }
+    None
 }
 
 /// Whether `text` has neither byte of `pair`.

@@ -2,7 +2,7 @@ use Rattle.std.proofs.Common.{arith}
 use Rattle.std.proofs.lemmas.List.{take_rest}
 use Rattle.typed_path.specs.components.{is_separator}
 use Rattle.typed_path.proofs.lemmas.lists.Lists.{split-none_passes, split-at_first, open-at_first}
-use Rattle.typed_path.proofs.scan.cut.cut_at_separator.Goals as goal
+use Rattle.typed_path.proofs.scan.separators.cut_at_separator.Goals as goal
 
 pub returns-then-at-text-clause-pieces : goal.returns-then-at-text-clause-pieces
 returns-then-at-text-clause-pieces c = grind (arith, take_rest, split-at_first)

@@ -1,7 +1,7 @@
 use Rattle.std.proofs.Common.{◌≡◌, ◌+◌, ◌≤◌, length}
 use Rattle.typed_path.specs.places.{names_under, unmet_under}
 use Rattle.typed_path.specs.views.BodyViews.{body_items}
-use Rattle.typed_path.proofs.common.within.depth_of.Given as goal
+use Rattle.typed_path.proofs.common.lead.depth_of.Given as goal
 
 abbrev pub invariant-names : goal.invariant-names
 invariant-names l = record {

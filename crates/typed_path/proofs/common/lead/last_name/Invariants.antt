@@ -1,7 +1,7 @@
 use Rattle.std.proofs.Common.{◌≡◌, ◌+◌, ◌≤◌, length}
 use Rattle.typed_path.specs.views.BodyViews.{body_items}
 use Rattle.typed_path.specs.places.{names_under, unmet_under}
-use Rattle.typed_path.proofs.common.within.last_name.Given as goal
+use Rattle.typed_path.proofs.common.lead.last_name.Given as goal
 
 abbrev pub decreases-steps : goal.decreases-steps
 decreases-steps l = length (body_items l.rest)

@@ -4,7 +4,7 @@ use Rattle.typed_path.specs.views.BodyViews.{body_items}
 use Rattle.typed_path.specs.views.PieceViews.{step_part}
 use Rattle.typed_path.proofs.lemmas.places.KeptFromBack.{taken-last, goes-parent, goes-met, goes-passed, stays-name, stays-unmet, none-names, unmet-parents}
 use Rattle.typed_path.proofs.lemmas.scan.Steps.{empty-last}
-use Rattle.typed_path.proofs.common.within.last_name.Goals as goal
+use Rattle.typed_path.proofs.common.lead.last_name.Goals as goal
 
 pub steps-preserved-in-ParentDir : goal.steps-preserved-in-ParentDir
 steps-preserved-in-ParentDir c = grind (arith, common_steps, goes-parent, taken-last)
