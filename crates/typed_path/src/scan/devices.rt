@@ -7,7 +7,7 @@ ghost use Rattle.typed_path.specs.changes.{begins_as_device};
 ghost use Rattle.typed_path.specs.queries.{is_further_device, is_taken_for_device, name_may_be_device, without_last_spaces};
 
 use crate::scan::lanes::first_between;
-use crate::scan::separators::{Separators, is_in};
+use crate::scan::separators::{FIRST_LETTERS, SECOND_LETTERS, Separators, is_in};
 
 /// Whether some version of Windows may take `name` for a device, as `nul .txt` or `con:a`. Only the
 /// bytes before the first `:` count.
@@ -36,6 +36,9 @@ fn first_of(text: &[u8], byte: u8) -> usize
     first_between(text, 0, text.len(), (byte, byte))
 }
 
+/// The letters `lmntx`, which are third in device names, as a set of [`is_in`].
+const THIRD_LETTERS: u32 = 1 << 12 | 1 << 13 | 1 << 14 | 1 << 20 | 1 << 24;
+
 /// Whether the first three bytes, masked to five bits, are in `[acnlp][opru][lmntx]`, as those of
 /// each device are.
 #[inline(always)]
@@ -43,8 +46,9 @@ fn begins_as_device(text: &[u8]) -> bool
     ensures { result ≡ begins_as_device text.now }
 {
     match text {
-        // The sets of letters, a bit for each by its low five bits.
-        [a, b, c, ..] => is_in(86_026, *a) & (is_in(2_457_600, *b) & is_in(17_854_464, *c)),
+        [a, b, c, ..] => {
+            is_in(FIRST_LETTERS, *a) & (is_in(SECOND_LETTERS, *b) & is_in(THIRD_LETTERS, *c))
+        }
         _ => false,
     }
 }

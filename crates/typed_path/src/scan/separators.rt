@@ -568,6 +568,12 @@ fn begins_with_device(text: &[u8]) -> bool
     may_end_stem(text) && Separators::Either.is_reserved(first_segment(text))
 }
 
+/// The letters `acnlp`, which device names begin with, as a set of [`is_in`].
+pub const FIRST_LETTERS: u32 = 1 << 1 | 1 << 3 | 1 << 12 | 1 << 14 | 1 << 16;
+
+/// The letters `opru`, which are second in device names, as a set of [`is_in`].
+pub const SECOND_LETTERS: u32 = 1 << 15 | 1 << 16 | 1 << 18 | 1 << 21;
+
 /// Whether the first two bytes, masked to five bits, are in `[acnlp][opru]`, as those of each
 /// device are.
 #[inline(always)]
@@ -575,8 +581,7 @@ fn begins_like_device(text: &[u8]) -> bool
     ensures { result ≡ begins_like_device text.now }
 {
     match text {
-        // The sets of letters, a bit for each by its low five bits.
-        [a, b, ..] => is_in(86_026, *a) & is_in(2_457_600, *b),
+        [a, b, ..] => is_in(FIRST_LETTERS, *a) & is_in(SECOND_LETTERS, *b),
         _ => false,
     }
 }
