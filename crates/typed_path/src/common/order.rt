@@ -283,7 +283,7 @@ const MOST_ORDERED: usize = 128;
 
 /// Returns the order of two paths by their components.
 #[inline]
-pub(crate) fn compare<T: Encoding>(path: &[u8], other: &[u8]) -> Ordering
+fn compare<T: Encoding>(path: &[u8], other: &[u8]) -> Ordering
     ensures { result ≡ path_cmp T.dialect path.now other.now }
 {
     // Equal bytes need no reading.

@@ -384,7 +384,7 @@ impl<'a> Cursor<'a> {
     /// Returns the index in the path at which the first component left begins; unspecified if none
     /// is left.
     #[inline(always)]
-    pub(crate) fn first_start(&self) -> usize
+    fn first_start(&self) -> usize
         ensures { (first : Placed) → first_of (items_left self.now) ≡ Some first → result ≡ first.start }
     {
         match self.prefix {

@@ -137,7 +137,7 @@ impl Separators {
 
     /// Whether one of `bytes` is no separator, and a byte that no name may have: NUL; on Windows
     /// also one of `:?*"><|` and, if the path is read verbatim, `/`.
-    pub fn has_stray(self, bytes: &[u8]) -> bool
+    fn has_stray(self, bytes: &[u8]) -> bool
         ensures { result ≡ list_any (is_stray self) bytes.now }
     {
         match self {
@@ -286,7 +286,7 @@ const ONE_BLOCK: usize = 32;
 
 /// Whether a segment of `text` stands for a device, as `con.txt` does; `false` on Unix.
 #[inline(always)]
-pub fn has_reserved(text: &[u8], separators: Separators) -> bool
+fn has_reserved(text: &[u8], separators: Separators) -> bool
     ensures { result ≡ list_any (is_reserved (dialect_of separators))
         (slice_split (is_separator separators) text.now) }
 {

@@ -174,17 +174,17 @@ fn write_all<W: Sink>(writer: &mut W, bytes: &[u8]) -> Result<(), Failed>
 
 /// The replies that were not written yet, and the line that is not complete yet.
 #[derive(Drop)]
-pub struct Dialogue {
+struct Dialogue {
     /// What came after the last line feed.
-    pub line: Vec<u8>,
+    line: Vec<u8>,
     /// The replies that were not written yet.
-    pub replies: Vec<u8>,
+    replies: Vec<u8>,
     ghost is_open: { split_lines line.items ≡ line.items ∷ [] },
 }
 
 impl Dialogue {
     /// Returns a dialogue with no open line and no replies.
-    pub fn new(alloc: Global) -> Dialogue
+    fn new(alloc: Global) -> Dialogue
         ensures line { result.line.items ≡ [] }
         ensures replies { result.replies.items ≡ [] }
     {
@@ -196,7 +196,7 @@ impl Dialogue {
 
     /// Takes in more input, and answers each line that it completes. If allocation fails, the state
     /// of the dialogue is unspecified.
-    pub fn take_in(&mut self, input: &[u8]) -> Result<(), AllocError>
+    fn take_in(&mut self, input: &[u8]) -> Result<(), AllocError>
         ensures replies { OnOk result (self.new.replies.items ≡ self.old.replies.items
             ++ replies_to (complete_lines (self.old.line.items ++ input.now))) }
         ensures line { OnOk result
@@ -233,7 +233,7 @@ impl Dialogue {
 
     /// Answers the open line, if it is not empty, once the input is at its end. If allocation
     /// fails, the state of the dialogue is unspecified.
-    pub fn finish(&mut self) -> Result<(), AllocError>
+    fn finish(&mut self) -> Result<(), AllocError>
         ensures { OnOk result (self.new.replies.items
             ≡ self.old.replies.items ++ replies_to (all_lines (self.old.line.items ∷ []))) }
     {

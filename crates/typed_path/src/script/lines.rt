@@ -129,7 +129,7 @@ fn answer_bad_line<'a>(
 
 /// A command whose line names an encoding.
 #[derive(Clone, Copy)]
-pub enum Command {
+enum Command {
     Normalize,
     Components,
     Join,
@@ -168,7 +168,7 @@ fn command_of(input: &[u8]) -> Option<(Command, &[u8])>
 
 /// The byte that ends a field.
 #[derive(Clone, Copy)]
-pub enum FieldEnd {
+enum FieldEnd {
     /// A tab: another field follows.
     Tab,
     /// A line feed: the line ends.
@@ -203,7 +203,7 @@ fn cut_field(input: &[u8]) -> Option<(Span<'_>, FieldEnd, &[u8])>
 
 /// Appends to `replies` the line `ok`, a tab, and the name of the encoding that `path` looks like:
 /// `unix` or `windows`.
-pub fn put_derived(path: &[u8], replies: &mut Vec<u8>) -> Result<(), AllocError>
+fn put_derived(path: &[u8], replies: &mut Vec<u8>) -> Result<(), AllocError>
     ensures { OnOk result
         (replies.new.items ≡ replies.old.items ++ reply_line (derived_reply path.now)) }
 {
@@ -215,7 +215,7 @@ pub fn put_derived(path: &[u8], replies: &mut Vec<u8>) -> Result<(), AllocError>
 
 /// Appends to `replies` the reply to a command with one path: that of [`put_bad_line`] if the
 /// command needs two fields.
-pub fn put_path_reply<T: Encoding>(
+fn put_path_reply<T: Encoding>(
     command: Command,
     path: Span<'_>,
     replies: &mut Vec<u8>,
@@ -240,7 +240,7 @@ pub fn put_path_reply<T: Encoding>(
 /// Appends to `replies` the reply to a command with two fields: a base and a path, or the name of
 /// an encoding and a path. It is that of [`put_bad_line`] if the command takes one path, or no
 /// encoding has that name.
-pub fn put_pair_reply<T: Encoding>(
+fn put_pair_reply<T: Encoding>(
     command: Command,
     first: &[u8],
     path: Span<'_>,
@@ -351,7 +351,7 @@ fn put_refusal(refusal: CheckedPathError, replies: &mut Vec<u8>) -> Result<(), A
 
 /// Appends to `replies` the line `err`, a tab, and `BadLine`, which is the reply to a line that is
 /// no command.
-pub fn put_bad_line(replies: &mut Vec<u8>) -> Result<(), AllocError>
+fn put_bad_line(replies: &mut Vec<u8>) -> Result<(), AllocError>
     ensures { OnOk result (replies.new.items ≡ replies.old.items ++ reply_line bad_line) }
 {
     replies.extend_from_slice(b"err\tBadLine\n")

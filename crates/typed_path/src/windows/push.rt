@@ -136,7 +136,7 @@ pub fn prefix_len(path: &[u8]) -> usize
 }
 
 /// Whether `path` has a verbatim prefix, as `\\?\C:` or `//?/a`, which its first five bytes tell.
-pub fn has_verbatim_kind(path: &[u8]) -> bool
+fn has_verbatim_kind(path: &[u8]) -> bool
     ensures { result ≡ has_any_verbatim_prefix (kinds (parts_of windows path.now)) }
 {
     match after_mark(b'?', path) {
@@ -263,7 +263,7 @@ fn stays_known(len: usize, other: &[u8], known: Option<usize>) -> bool
 
 /// Returns the length in bytes of the prefix of `text` if that is verbatim and `text` is spelled,
 /// else `None`.
-pub fn spelled_head(text: &[u8]) -> Option<usize>
+fn spelled_head(text: &[u8]) -> Option<usize>
     ensures { IsSpelledHead result text.now }
 {
     let found = find_prefix(text)?;
@@ -339,7 +339,7 @@ fn is_component(separators: Separators, piece: &[u8]) -> bool
 /// Merges `other`, which has no prefix, into the path `text[start..kept]`, which has a verbatim
 /// one, and cuts off what follows `kept`. If allocation fails, `text` is unchanged. `known` is what
 /// [`push_next`] returned for the path, or `None`; if it is wrong, the result is unspecified.
-pub fn merge_at(
+fn merge_at(
     text: &mut Vec<u8>,
     start: usize,
     kept: usize,
@@ -540,7 +540,7 @@ fn put_names(text: &mut Vec<u8>, head: usize, names: &[u8]) -> Result<(), AllocE
 /// Merges the components of `path` into those in `text[head..]` after a prefix. `parted` tells
 /// whether these are parted from it; returns whether the result is. With spare capacity for each
 /// component and one byte more for each it does not fail.
-pub fn merge_each(
+fn merge_each(
     text: &mut Vec<u8>,
     head: usize,
     parted: bool,
