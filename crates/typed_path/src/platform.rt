@@ -69,11 +69,6 @@ impl Encoding for PlatformEncoding {
     }
 
     #[inline]
-    fn behind<'a>(path: &'a [u8], base: &[u8]) -> Option<&'a [u8]> {
-        UnixEncoding::behind(path, base)
-    }
-
-    #[inline]
     fn strip_by_bytes<'a>(path: &'a [u8], base: &[u8]) -> Option<Option<&'a [u8]>> {
         UnixEncoding::strip_by_bytes(path, base)
     }

@@ -1,9 +1,7 @@
-//! Hostile use of `typed_path`: every short text, compared with a slow reading; what is left after
-//! bases; and streams that come in pieces and fail.
+//! Hostile use of `typed_path`: every short text, compared with a slow reading; and streams that
+//! come in pieces and fail.
 #![tactic(auto)]
 
-#[cfg(test)]
-mod bases;
 #[cfg(test)]
 mod hostile;
 #[cfg(test)]

@@ -21,7 +21,7 @@ pub struct Part<'a> {
 }
 
 /// Returns the separators of a path: `/` on Unix; on Windows both, or `\` alone after `\\?\`.
-pub fn separators(windows: bool, text: &[u8]) -> &'static [u8] {
+fn separators(windows: bool, text: &[u8]) -> &'static [u8] {
     if !windows {
         b"/"
     } else if text.starts_with(br"\\?\") {
@@ -100,7 +100,7 @@ fn verbatim<'a>(text: &'a [u8], own: &[u8]) -> Option<(WindowsPrefix<'a>, &'a [u
 }
 
 /// Returns the prefix of a Windows path, the first of six cases, and what follows it.
-pub fn prefix(text: &[u8]) -> Option<(WindowsPrefix<'_>, &[u8])> {
+fn prefix(text: &[u8]) -> Option<(WindowsPrefix<'_>, &[u8])> {
     if let Some(behind) = behind_mark(text, b'?') {
         if let Some(found) = verbatim(behind, separators(true, text)) {
             return Some(found);

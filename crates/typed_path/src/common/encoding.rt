@@ -143,21 +143,13 @@ pub trait Encoding: Sized {
     fn rooted(cursor: &Cursor<'_>) -> bool
         ensures { result ≡ has_root dialect (kinds (parts (items_left cursor.now))) };
 
-    /// Not for callers. Returns what is left of `path` after `base`, if a look at their bytes finds
-    /// it. `None` leaves it open, as the default does.
-    fn behind<'a>(path: &'a [u8], base: &[u8]) -> Option<&'a [u8]>
-        ensures { IfSome result (λ rest. stripped dialect path.now base.now ≡ Some rest.now) }
-    {
-        None
-    }
-
     /// Not for callers. Returns whether `path` begins with the components of `base`, and if so what
     /// is left of it after them, if a look at their bytes tells: `Some(Some(rest))` or
-    /// `Some(None)`. `None` leaves it open. The default finds only the first of these, by `behind`.
+    /// `Some(None)`. `None` leaves it open.
     fn strip_by_bytes<'a>(path: &'a [u8], base: &[u8]) -> Option<Option<&'a [u8]>>
         ensures { IfSome result (λ told. stripped dialect path.now base.now ≡ option_copied told) }
     {
-        Self::behind(path, base).map(Some)
+        None
     }
 
     /// Not for callers. Returns the order of two paths if their prefixes differ, or only one has

@@ -12,7 +12,7 @@ use crate::common::{
 };
 use crate::errors::CheckedPathError;
 use crate::scan::{
-    Cursor, Piece, Separators, are_apart, base_end, end_behind, first_difference, has_long_front,
+    Cursor, Piece, Separators, are_apart, base_end, first_difference, has_long_front,
     has_no_nul_or_dot_pair, has_valid_names, have_other_fronts,
 };
 use std::alloc::AllocError;
@@ -68,15 +68,6 @@ impl Encoding for UnixEncoding {
 
     fn rooted(cursor: &Cursor<'_>) -> bool {
         cursor.begins_with_root()
-    }
-
-    #[inline]
-    fn behind<'a>(path: &'a [u8], base: &[u8]) -> Option<&'a [u8]> {
-        if !path.starts_with(base) {
-            return None;
-        }
-        let end = end_behind(path, base, Separators::Slash)?;
-        Some(&path[end..])
     }
 
     #[inline]

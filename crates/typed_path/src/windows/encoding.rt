@@ -88,11 +88,6 @@ impl Encoding for WindowsEncoding {
     }
 
     #[inline]
-    fn behind<'a>(path: &'a [u8], base: &[u8]) -> Option<&'a [u8]> {
-        behind(path, base)
-    }
-
-    #[inline]
     fn strip_by_bytes<'a>(path: &'a [u8], base: &[u8]) -> Option<Option<&'a [u8]>> {
         let ([own, ..], [wanted, ..]) = (path, base) else {
             return None;
