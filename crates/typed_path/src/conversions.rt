@@ -69,7 +69,7 @@ impl<'a, T: Encoding> Path<'a, T> {
     pub fn has_unix_encoding(self) -> bool
         ensures { result ≡ same_dialect T.dialect unix }
     {
-        have_one_label::<T, UnixEncoding>()
+        have_one_dialect::<T, UnixEncoding>()
     }
 
     /// Returns the path as on Unix, as [`Path::with_encoding`] does.
@@ -94,7 +94,7 @@ impl<'a, T: Encoding> Path<'a, T> {
     pub fn has_windows_encoding(self) -> bool
         ensures { result ≡ same_dialect T.dialect windows }
     {
-        have_one_label::<T, WindowsEncoding>()
+        have_one_dialect::<T, WindowsEncoding>()
     }
 
     /// Returns the path as on Windows, as [`Path::with_encoding`] does.
@@ -201,11 +201,12 @@ impl<'a, T: Encoding> Path<'a, T> {
     }
 }
 
-/// Whether two encodings have the same label.
-pub fn have_one_label<T: Encoding, U: Encoding>() -> bool
+/// Whether two encodings have the same dialect, and so the same label.
+#[inline(always)]
+fn have_one_dialect<T: Encoding, U: Encoding>() -> bool
     ensures { result ≡ same_dialect T.dialect U.dialect }
 {
-    T::label() == U::label()
+    T::is_windows() == U::is_windows()
 }
 
 /// Appends `path`, converted from the encoding `T` to `U` as [`Path::with_encoding`] does, to
@@ -220,7 +221,7 @@ pub fn put_converted<T: Encoding, U: Encoding>(
     ensures succeeds { (room : ℕ) → length text.old.items + room ≤ vec_capacity text.old
         → FitsConverted T.dialect U.dialect room (span_bytes path.entry) → IsOk result }
 {
-    if have_one_label::<T, U>() {
+    if have_one_dialect::<T, U>() {
         return text.extend_from_slice(path.as_bytes());
     }
     if let Some(turned) = turned::<T, U>(path.as_bytes()) {
@@ -239,7 +240,7 @@ pub fn put_converted<T: Encoding, U: Encoding>(
 fn separator_of<U: Encoding>() -> u8
     ensures { result ≡ separator_of U.dialect }
 {
-    if have_one_label::<U, UnixEncoding>() {
+    if have_one_dialect::<U, UnixEncoding>() {
         b'/'
     } else {
         b'\\'
@@ -256,10 +257,10 @@ fn turned<T: Encoding, U: Encoding>(path: &[u8]) -> Option<&[u8]>
     if path.len() < SHORT || begins_with_long_name(path) {
         return None;
     }
-    if have_one_label::<T, UnixEncoding>() && have_one_label::<U, WindowsEncoding>() {
+    if have_one_dialect::<T, UnixEncoding>() && have_one_dialect::<U, WindowsEncoding>() {
         return turned_for_windows(path);
     }
-    if have_one_label::<T, WindowsEncoding>() && have_one_label::<U, UnixEncoding>() {
+    if have_one_dialect::<T, WindowsEncoding>() && have_one_dialect::<U, UnixEncoding>() {
         if stands_behind_drive(path) {
             return None;
         }
@@ -397,13 +398,13 @@ fn is_unrefused<T: Encoding, U: Encoding>(path: &[u8]) -> bool
     ensures { IsTrue result → (same_dialect T.dialect U.dialect ≡ false)
         × IsUnrefused T.dialect U.dialect path.now }
 {
-    if have_one_label::<T, UnixEncoding>() && have_one_label::<U, WindowsEncoding>() {
+    if have_one_dialect::<T, UnixEncoding>() && have_one_dialect::<U, WindowsEncoding>() {
         // Short paths are read, and so are those whose second byte is `:`.
         return SHORTEST_LOOKED_AT <= path.len()
             && !has_second_colon(path)
             && !has_forbidden_or_device(path);
     }
-    if have_one_label::<T, WindowsEncoding>() && have_one_label::<U, UnixEncoding>() {
+    if have_one_dialect::<T, WindowsEncoding>() && have_one_dialect::<U, UnixEncoding>() {
         // Unix forbids only NUL and `/` in names; `/` separates unless the path is read verbatim.
         return SHORT <= path.len()
             && !Separators::of_windows(path).is_verbatim()

@@ -5,7 +5,7 @@ ghost use Rattle.typed_path.specs.conversions.{platform};
 
 use crate::common::{Encoding, Path, PathBuf};
 use crate::errors::CheckedPathError;
-use crate::scan::{Cursor, Piece};
+use crate::scan::{Cursor, Piece, Separators};
 use crate::unix::{UnixComponent, UnixEncoding, UnixPath, UnixPathBuf};
 use std::alloc::AllocError;
 use std::cmp::Ordering;
@@ -41,8 +41,18 @@ impl Encoding for PlatformEncoding {
         UnixEncoding::label()
     }
 
+    #[inline(always)]
+    fn is_windows() -> bool {
+        UnixEncoding::is_windows()
+    }
+
     fn root_text() -> &'static [u8] {
         UnixEncoding::root_text()
+    }
+
+    #[inline(always)]
+    fn separators(path: &[u8]) -> Separators {
+        UnixEncoding::separators(path)
     }
 
     #[inline(always)]

@@ -4,7 +4,8 @@ ghost use Rattle.std.specs.Prelude.{◌≡◌, ◌≤◌, ◌<◌, Bool, ◌+◌
 ghost use Rattle.std.specs.Vec.{vec_len, vec_capacity};
 ghost use Rattle.typed_path.specs.changes.{refusal, error_of, FitsPush, IsKnown, fault};
 ghost use Rattle.typed_path.specs.promises.{HasPrefixOf, LiesWithin};
-ghost use Rattle.typed_path.specs.components.{Dialect, root_of, label_of, comps, parts_of, kinds, parts};
+ghost use Rattle.typed_path.specs.components.{Dialect, windows, separators, root_of, label_of, comps, parts_of, kinds, parts};
+ghost use Rattle.typed_path.specs.conversions.{same_dialect};
 ghost use Rattle.typed_path.specs.scan.{but_last, slice_after_front, slice_after_back, first_part, last_part};
 ghost use Rattle.typed_path.specs.views.PieceViews.{part_of};
 ghost use Rattle.typed_path.specs.views.CursorViews.{slice_left, items_left};
@@ -16,7 +17,7 @@ ghost use Rattle.typed_path.specs.order.Words.{path_words};
 
 use crate::common::order::{feed, feed_prefix};
 use crate::errors::{CheckedPathError, PathError};
-use crate::scan::{Cursor, Piece};
+use crate::scan::{Cursor, Piece, Separators};
 use std::alloc::AllocError;
 use std::cmp::Ordering;
 use std::hash::Hasher;
@@ -37,9 +38,17 @@ pub trait Encoding: Sized {
     fn label() -> &'static str
         ensures { result.now ≡ label_of dialect };
 
+    /// Whether paths are read and written as on Windows, else as on Unix.
+    fn is_windows() -> bool
+        ensures { result ≡ same_dialect dialect windows };
+
     /// The root as it is written when a path is put together: `/` or `\`.
     fn root_text() -> &'static [u8]
         ensures { result.now ≡ root_of dialect };
+
+    /// Not for callers. Returns which bytes separate the components of a path.
+    fn separators(path: &[u8]) -> Separators
+        ensures { result ≡ separators dialect path.now };
 
     /// Whether the encoding allows `name`: it has no byte that no name may have and, on Windows,
     /// does not stand for a device, as `con.txt` does. The empty name, `.` and `..` are allowed.

@@ -2,7 +2,7 @@
 
 ghost use Rattle.std.specs.Prelude.{◌≡◌, IfOk, not, ◌≤◌, length, option_map, option_copied, IfSome, [], IsOk, take, ◌++◌, None};
 ghost use Rattle.typed_path.specs.places.{clean_text, is_within, normal_text, relative_text};
-ghost use Rattle.typed_path.specs.components.{kinds, comps, parts_of, separators};
+ghost use Rattle.typed_path.specs.components.{kinds, comps, parts_of};
 ghost use Rattle.typed_path.specs.queries.{is_absolute, has_root, is_portable, is_valid, may_be_device, parent_of, portable_fault, file_name_of, file_stem_of, stripped, path_starts_with, path_ends_with, ancestors_of, stripped_to, extension, file_prefix_of, has_trailing_separator, common_ancestor_of, unportable};
 ghost use Rattle.typed_path.specs.scan.{last_part};
 ghost use Rattle.typed_path.specs.changes.{without_file_name, stem_end, with_file_name, with_extension, refusal, fault, name_end, with_added_extension, dotted, error_of, join_fault, join_refusal};
@@ -20,7 +20,7 @@ use crate::common::rows::put_clean;
 use crate::common::within::{is_within, shared_end};
 use crate::common::writing::{dotted_len, first_stem, put_extension, split_name};
 use crate::errors::{JoinError, PathError, PortableError, StripPrefixError};
-use crate::scan::{Piece, Separators, keeps_prefix};
+use crate::scan::{Piece, keeps_prefix};
 use std::alloc::{AllocError, Global};
 use std::marker::PhantomData;
 
@@ -161,7 +161,7 @@ impl<'a, T: Encoding> Path<'a, T> {
     pub fn keeps_prefix(self) -> bool
         ensures { result ≡ keeps_prefix T.dialect (path_bytes self.entry) }
     {
-        T::root_text() == b"/".as_slice() || keeps_prefix(self.bytes)
+        !T::is_windows() || keeps_prefix(self.bytes)
     }
 
     /// Returns an iterator over the components of the path, from either end.
@@ -266,18 +266,7 @@ impl<'a, T: Encoding> Path<'a, T> {
     {
         match self.bytes {
             [] => false,
-            [.., last] => self.separators().contains(*last),
-        }
-    }
-
-    /// Which bytes separate the components of the path.
-    fn separators(self) -> Separators
-        ensures { result ≡ separators T.dialect (path_bytes self.entry) }
-    {
-        if T::root_text() == b"/".as_slice() {
-            Separators::Slash
-        } else {
-            Separators::of_windows(self.bytes)
+            [.., last] => T::separators(self.bytes).contains(*last),
         }
     }
 

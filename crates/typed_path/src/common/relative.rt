@@ -160,10 +160,10 @@ fn count_ends(text: &[u8], separators: Separators) -> usize
 pub(crate) fn bare_separators<T: Encoding>() -> Separators
     ensures { result ≡ bare_separators T.dialect }
 {
-    if T::root_text() == b"/".as_slice() {
-        Separators::Slash
-    } else {
+    if T::is_windows() {
         Separators::Either
+    } else {
+        Separators::Slash
     }
 }
 

@@ -43,7 +43,7 @@ fn put_whole<T: Encoding>(text: &mut Vec<u8>, path: &[u8]) -> Result<(), AllocEr
     ensures succeeds { vec_len text.old + length path.now + 2 ≤ vec_capacity text.old
         → IsOk result }
 {
-    if T::root_text() == b"/".as_slice() {
+    if !T::is_windows() {
         return put_bare(text, path, Separators::Slash);
     }
     match find_prefix(path) {

@@ -43,8 +43,18 @@ impl Encoding for UnixEncoding {
         "unix"
     }
 
+    #[inline(always)]
+    fn is_windows() -> bool {
+        false
+    }
+
     fn root_text() -> &'static [u8] {
         b"/"
+    }
+
+    #[inline(always)]
+    fn separators(_path: &[u8]) -> Separators {
+        Separators::Slash
     }
 
     #[inline(always)]

@@ -49,8 +49,18 @@ impl Encoding for WindowsEncoding {
         "windows"
     }
 
+    #[inline(always)]
+    fn is_windows() -> bool {
+        true
+    }
+
     fn root_text() -> &'static [u8] {
         b"\\"
+    }
+
+    #[inline(always)]
+    fn separators(path: &[u8]) -> Separators {
+        Separators::of_windows(path)
     }
 
     #[inline(always)]

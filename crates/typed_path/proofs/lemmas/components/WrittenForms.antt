@@ -1,18 +1,17 @@
 -- Components are written as their kinds tell, roots as their dialect writes them, and where prefixes and roots stand in a list.
-use Rattle.std.proofs.Common.{◌≡◌, ℕ, List, [], ◌∷◌, ◌++◌, true, drop, refl, ◌∙◌, ◌-◌, length, take, map, Bool, false, if◌then◌else◌, sym, ap, subst, Option, Some, None, ap₂, arith}
+use Rattle.std.proofs.Common.{◌≡◌, ℕ, List, [], ◌∷◌, ◌++◌, true, drop, refl, ◌∙◌, ◌-◌, length, take, map, Bool, false, if◌then◌else◌, sym, ap, subst, Option, Some, None, arith}
 use Rattle.std.specs.List.{flat_map}
 use Rattle.std.proofs.lemmas.List.{take-map, map-append}
 use Rattle.std.proofs.lemmas.Option.{same_Some}
 use Rattle.typed_path.specs.declared.scan.separators.Separators.{Separators}
 use Rattle.typed_path.specs.declared.scan.step.Piece.{Piece}
 use Rattle.typed_path.specs.declared.scan.separators.Separators.TheVariants.{Slash, Backslash, Either}
-use Rattle.typed_path.specs.components.{Dialect, separators, unix, windows, root_text, begins_verbatim, Placed, kinds, parts, Part, current_part, parent_part, name_part, root_part, prefix_part, Found, prefix_of, Segment, segments, first, later, body_of, body, comps_behind, parts_of, written, as_written, slash, root_of, is_separator, Kind}
+use Rattle.typed_path.specs.components.{Dialect, separators, unix, windows, root_text, begins_verbatim, Placed, kinds, parts, Part, current_part, parent_part, name_part, root_part, prefix_part, Found, prefix_of, Segment, segments, first, later, body_of, body, comps_behind, parts_of, written, as_written, is_separator, Kind}
 use Rattle.typed_path.specs.scan.{but_last, first_part, last_part}
 use Rattle.typed_path.specs.views.PieceViews.{part_of}
 use Rattle.typed_path.proofs.lemmas.components.Segments.{Seen, empty, passed_dot, kept_dot, dot_dot, word, seen, body_parts, first_parts}
 use Rattle.typed_path.proofs.lemmas.places.Resolving.{no_heads, heads_first, no_heads-first}
 use Rattle.typed_path.proofs.lemmas.scan.Steps.{last_pushed, last_part-push}
-use Rattle.std.specs.Str.{bytes_eq}
 use Rattle.std.proofs.lemmas.List.Splits.{slice_split-cons_yes}
 use Rattle.typed_path.specs.queries.{begins_with_root}
 
@@ -160,8 +159,3 @@ written-parts_of windows text = behind (prefix_of windows text)
     behind (Some f) =
         written-cons (written windows) (prefix_part f.prefix (take f.length text)) (parts (body s f.length (drop f.length text))) refl
         (written-body (written windows) s (writes_windows (begins_verbatim text)) f.length (drop f.length text))
-
--- a dialect that writes another root than `/` is that of Windows
-pub root_of-other : (d : Dialect) (own other : List ℕ) → own ≡ root_of d → other ≡ slash ∷ [] → false ≡ bytes_eq own other → d ≡ windows
-root_of-other unix own other e f differ = let same : false ≡ true = differ ∙ ap₂ bytes_eq e f in cc
-root_of-other windows own other e f differ = refl
