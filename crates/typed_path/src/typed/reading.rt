@@ -1,7 +1,7 @@
 //! Iterators over paths whose dialect is chosen at run time, and components of these.
 
-ghost use Rattle.std.specs.Prelude.{◌≡◌, drop, option_map, option_copied, refl, IfSome, ◌==◌, length};
-ghost use Rattle.typed_path.specs.scan.{but_last, slice_after_front, slice_after_back, first_part, last_part, LeavesFront, LeavesBack};
+ghost use Rattle.std.specs.Prelude.{◌≡◌, option_copied, refl, IfSome, ◌==◌, length};
+ghost use Rattle.typed_path.specs.scan.{LeavesFront, LeavesBack};
 ghost use Rattle.typed_path.specs.typed.{typed_dialect, KeepsDialect, reading_partial_cmp, reading_partial_order, derived_dialect};
 ghost use Rattle.typed_path.specs.views.TypedViews.{typed_bytes, reading_dialect, typed_items, typed_slice, typed_parts, typed_part, typed_iter_items, typed_iter_slice, typed_iter_texts, typed_ancestors_left};
 ghost use Rattle.typed_path.specs.components.{kinds, is_name, is_parent, is_current, comps};
@@ -100,32 +100,6 @@ impl<'a> TypedComponents<'a> {
     {
         each!(self, reading => reading.has_root())
     }
-
-    /// Takes the first component that is left, or returns `None` for good once all are taken.
-    #[inline(always)]
-    pub fn next(&mut self) -> Option<TypedComponent<'a>>
-        ensures dialect { reading_dialect self.new ≡ reading_dialect self.old }
-        ensures kind { IfSome result (λ c. typed_dialect c ≡ reading_dialect self.old) }
-        ensures taken { option_map typed_part result ≡ first_part (typed_items self.old) }
-        ensures items { typed_items self.new ≡ drop 1 (typed_items self.old) }
-        ensures slice { typed_slice self.new
-            ≡ slice_after_front (typed_items self.old) (typed_slice self.old) }
-    {
-        typed_option!(self, reading => reading.next())
-    }
-
-    /// Takes the last component that is left, or returns `None` for good once all are taken.
-    #[inline(always)]
-    pub fn next_back(&mut self) -> Option<TypedComponent<'a>>
-        ensures dialect { reading_dialect self.new ≡ reading_dialect self.old }
-        ensures kind { IfSome result (λ c. typed_dialect c ≡ reading_dialect self.old) }
-        ensures taken { option_map typed_part result ≡ last_part (typed_items self.old) }
-        ensures items { typed_items self.new ≡ but_last (typed_items self.old) }
-        ensures slice { typed_slice self.new
-            ≡ slice_after_back (typed_items self.old) (typed_slice self.old) }
-    {
-        typed_option!(self, reading => reading.next_back())
-    }
 }
 
 impl<'a> Iterator for TypedComponents<'a> {
@@ -172,32 +146,6 @@ impl<'a> TypedIter<'a> {
         ensures { result.now ≡ typed_iter_slice self.entry }
     {
         each!(self, left => left.as_path().as_bytes())
-    }
-
-    /// Takes the text of the first component that is left, `None` once all are taken.
-    #[inline(always)]
-    pub fn next(&mut self) -> Option<&'a [u8]>
-        ensures dialect { KeepsDialect self.old self.new }
-        ensures taken { option_copied result
-            ≡ option_map (λ p. p.text) (first_part (typed_iter_items self.old)) }
-        ensures items { typed_iter_items self.new ≡ drop 1 (typed_iter_items self.old) }
-        ensures slice { typed_iter_slice self.new
-            ≡ slice_after_front (typed_iter_items self.old) (typed_iter_slice self.old) }
-    {
-        each!(self, left => left.next())
-    }
-
-    /// Takes the text of the last component that is left, `None` once all are taken.
-    #[inline(always)]
-    pub fn next_back(&mut self) -> Option<&'a [u8]>
-        ensures dialect { KeepsDialect self.old self.new }
-        ensures taken { option_copied result
-            ≡ option_map (λ p. p.text) (last_part (typed_iter_items self.old)) }
-        ensures items { typed_iter_items self.new ≡ but_last (typed_iter_items self.old) }
-        ensures slice { typed_iter_slice self.new
-            ≡ slice_after_back (typed_iter_items self.old) (typed_iter_slice self.old) }
-    {
-        each!(self, left => left.next_back())
     }
 }
 

@@ -2,7 +2,7 @@
 //! names.
 #![tactic(auto, using(crate::proofs::lemmas::texts::TextChanges::reading_laws))]
 
-ghost use Rattle.std.specs.Prelude.{◌≡◌, true, ⊤, drop, option_map, map, ◌==◌, length, ℕ, List};
+ghost use Rattle.std.specs.Prelude.{◌≡◌, true, ⊤, map, ◌==◌, length, ℕ, List};
 ghost use Rattle.typed_path.specs.components.{Part, kinds, is_name, is_parent, is_current, written, as_written, comps};
 ghost use Rattle.typed_path.specs.texts.{IsTextReading, is_text_part};
 ghost use Rattle.typed_path.specs.views.PathViews.{components_items, components_slice, components_parts};
@@ -10,7 +10,7 @@ ghost use Rattle.typed_path.specs.views.PieceViews.{part_of};
 ghost use Rattle.typed_path.specs.views.TextPieceViews.{text_part};
 ghost use Rattle.typed_path.specs.queries.{is_absolute, has_root, is_root, is_valid_kind, kind_fault, kind_may_be_device};
 ghost use Rattle.typed_path.specs.changes.{error_of};
-ghost use Rattle.typed_path.specs.scan.{but_last, slice_after_front, slice_after_back, first_part, last_part, LeavesFront, LeavesBack};
+ghost use Rattle.typed_path.specs.scan.{LeavesFront, LeavesBack};
 ghost use Rattle.std.specs.Iterator.{YieldsFirstBy, item_count, YieldsLastBy};
 
 use crate::common::{Components, Encoding, Reading, Reversed, check_name};
@@ -145,36 +145,6 @@ impl<'a, T: Utf8Encoding> Utf8Reading<'a, T, &'a str> {
     }
 }
 
-impl<'a, T: Utf8Encoding, I: FromPiece<'a, T>> Utf8Reading<'a, T, I> {
-    ghost use Rattle.typed_path.specs.views.ReadingViews.{reading_items, reading_slice};
-
-    /// Takes the first component that is left, or returns `None` for good once all are taken.
-    #[inline(always)]
-    pub fn next(&mut self) -> Option<I>
-        ensures taken { option_map I.seen result
-            ≡ option_map I.seen_of (first_part (reading_items self.old)) }
-        ensures items { reading_items self.new ≡ drop 1 (reading_items self.old) }
-        ensures slice { reading_slice self.new
-            ≡ slice_after_front (reading_items self.old) (reading_slice self.old) }
-    {
-        let piece = self.components.next()?;
-        Some(I::from_piece(piece))
-    }
-
-    /// Takes the last component that is left, or returns `None` for good once all are taken.
-    #[inline(always)]
-    pub fn next_back(&mut self) -> Option<I>
-        ensures taken { option_map I.seen result
-            ≡ option_map I.seen_of (last_part (reading_items self.old)) }
-        ensures items { reading_items self.new ≡ but_last (reading_items self.old) }
-        ensures slice { reading_slice self.new
-            ≡ slice_after_back (reading_items self.old) (reading_slice self.old) }
-    {
-        let piece = self.components.next_back()?;
-        Some(I::from_piece(piece))
-    }
-}
-
 impl<'a, T: Utf8Encoding, I: FromPiece<'a, T>> Iterator for Utf8Reading<'a, T, I> {
     ghost use Rattle.typed_path.specs.views.ReadingViews.{reading_items, reading_slice, reading_parts};
 
@@ -188,7 +158,8 @@ impl<'a, T: Utf8Encoding, I: FromPiece<'a, T>> Iterator for Utf8Reading<'a, T, I
 
     #[inline(always)]
     fn next(&mut self) -> Option<I> {
-        Utf8Reading::next(self)
+        let piece = self.components.next()?;
+        Some(I::from_piece(piece))
     }
 }
 
@@ -201,7 +172,8 @@ impl<'a, T: Utf8Encoding, I: FromPiece<'a, T>> DoubleEndedIterator for Utf8Readi
 
     #[inline(always)]
     fn next_back(&mut self) -> Option<I> {
-        Utf8Reading::next_back(self)
+        let piece = self.components.next_back()?;
+        Some(I::from_piece(piece))
     }
 }
 

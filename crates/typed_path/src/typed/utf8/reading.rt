@@ -1,7 +1,7 @@
 //! Iterators over paths of text whose dialect is chosen at run time, and components of these.
 
-ghost use Rattle.std.specs.Prelude.{◌≡◌, drop, option_map, option_copied, IfSome, ◌==◌, length};
-ghost use Rattle.typed_path.specs.scan.{but_last, slice_after_front, slice_after_back, first_part, last_part, LeavesFront, LeavesBack};
+ghost use Rattle.std.specs.Prelude.{◌≡◌, option_copied, IfSome, ◌==◌, length};
+ghost use Rattle.typed_path.specs.scan.{LeavesFront, LeavesBack};
 ghost use Rattle.typed_path.specs.typed.{typed_dialect, KeepsDialect, derived_dialect};
 ghost use Rattle.typed_path.specs.views.TypedTextViews.{typed_text, typed_text_items, typed_text_slice, typed_text_parts, typed_text_part, typed_text_iter_items, typed_text_iter_slice, typed_text_iter_texts, typed_text_ancestors_left};
 ghost use Rattle.typed_path.specs.components.{kinds, is_name, is_parent, is_current, comps};
@@ -67,32 +67,6 @@ impl<'a> Utf8TypedComponents<'a> {
     {
         each!(self, reading => reading.has_root())
     }
-
-    /// Takes the first component that is left, or returns `None` for good once all are taken.
-    #[inline(always)]
-    pub fn next(&mut self) -> Option<Utf8TypedComponent<'a>>
-        ensures dialect { reading_dialect self.new ≡ reading_dialect self.old }
-        ensures kind { IfSome result (λ c. typed_dialect c ≡ reading_dialect self.old) }
-        ensures taken { option_map typed_text_part result ≡ first_part (typed_text_items self.old) }
-        ensures items { typed_text_items self.new ≡ drop 1 (typed_text_items self.old) }
-        ensures slice { typed_text_slice self.new
-            ≡ slice_after_front (typed_text_items self.old) (typed_text_slice self.old) }
-    {
-        typed_option!(self, reading => reading.next())
-    }
-
-    /// Takes the last component that is left, or returns `None` for good once all are taken.
-    #[inline(always)]
-    pub fn next_back(&mut self) -> Option<Utf8TypedComponent<'a>>
-        ensures dialect { reading_dialect self.new ≡ reading_dialect self.old }
-        ensures kind { IfSome result (λ c. typed_dialect c ≡ reading_dialect self.old) }
-        ensures taken { option_map typed_text_part result ≡ last_part (typed_text_items self.old) }
-        ensures items { typed_text_items self.new ≡ but_last (typed_text_items self.old) }
-        ensures slice { typed_text_slice self.new
-            ≡ slice_after_back (typed_text_items self.old) (typed_text_slice self.old) }
-    {
-        typed_option!(self, reading => reading.next_back())
-    }
 }
 
 impl<'a> Iterator for Utf8TypedComponents<'a> {
@@ -139,32 +113,6 @@ impl<'a> Utf8TypedIter<'a> {
         ensures { result.now ≡ typed_text_iter_slice self.entry }
     {
         each!(self, left => left.as_str())
-    }
-
-    /// Takes the text of the first component that is left, `None` once all are taken.
-    #[inline(always)]
-    pub fn next(&mut self) -> Option<&'a str>
-        ensures dialect { KeepsDialect self.old self.new }
-        ensures taken { option_copied result
-            ≡ option_map (λ p. p.text) (first_part (typed_text_iter_items self.old)) }
-        ensures items { typed_text_iter_items self.new ≡ drop 1 (typed_text_iter_items self.old) }
-        ensures slice { typed_text_iter_slice self.new
-            ≡ slice_after_front (typed_text_iter_items self.old) (typed_text_iter_slice self.old) }
-    {
-        each!(self, left => left.next())
-    }
-
-    /// Takes the text of the last component that is left, `None` once all are taken.
-    #[inline(always)]
-    pub fn next_back(&mut self) -> Option<&'a str>
-        ensures dialect { KeepsDialect self.old self.new }
-        ensures taken { option_copied result
-            ≡ option_map (λ p. p.text) (last_part (typed_text_iter_items self.old)) }
-        ensures items { typed_text_iter_items self.new ≡ but_last (typed_text_iter_items self.old) }
-        ensures slice { typed_text_iter_slice self.new
-            ≡ slice_after_back (typed_text_iter_items self.old) (typed_text_iter_slice self.old) }
-    {
-        each!(self, left => left.next_back())
     }
 }
 
