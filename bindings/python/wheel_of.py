@@ -78,8 +78,8 @@ def taken(call, prefix):
     """The words that a call takes, as a docstring of C tells them; nothing for a property."""
     if any(isinstance(it, ast.Name) and it.id == "property" for it in call.decorator_list):
         return ""
-    texts = [it.arg for it in call.args.posonlyargs + call.args.args if it.arg != "self"]
-    words = ["$self" if prefix == "DOC_" else "$module", *texts, "/"]
+    texts, named = ([it.arg for it in some if it.arg != "self"] for some in (call.args.posonlyargs, call.args.args))
+    words = ["$self" if prefix == "DOC_" else "$module", *texts, "/", *named]
     if call.args.vararg:
         words.append(f"*{call.args.vararg.arg}")
     elif call.args.kwonlyargs:

@@ -529,7 +529,6 @@ CHECKED(join_checked, TYPED_PATH_STATUS_INVALID_FILENAME)
 CHECKED(join_portable, TYPED_PATH_STATUS_NOT_TEXT)
 CHECKED(resolve_checked, TYPED_PATH_STATUS_INVALID_FILENAME)
 OF_OTHER(_with_file_name, put_other(typed_path_with_file_name, path->dialect, &text, &other, LIKE_SELF, from))
-OF_OTHER(_with_extension, put_other(typed_path_with_extension, path->dialect, &text, &other, LIKE_SELF, from))
 OF_OTHER(_absolutize, put_other(typed_path_absolutize, path->dialect, &text, &other, LIKE_SELF, self))
 
 /* From a directory of Windows. */
@@ -734,16 +733,109 @@ static PyObject *path__pieces(PyObject *self, PyObject *unused)
 }
 
 /* Whether bytes are read as one name, and are that. */
+static bool is_name(uint32_t dialect, const Text *text)
+{
+    typed_path_reading reading = reading_of(text);
+    typed_path_component piece;
+    return is_next(dialect, text, &reading, &piece) && piece.kind == TYPED_PATH_KIND_NAME && piece.start == 0 &&
+           piece.length == text->len;
+}
+
 static PyObject *path__is_name(PyObject *self, PyObject *from)
 {
     Text text;
-    if (!read_bytes(from, &text))
+    return read_bytes(from, &text) ? PyBool_FromLong(is_name(((Path *)self)->dialect, &text)) : NULL;
+}
+
+/* Other extensions. */
+
+/* Whether what was made of a path has the stem of that for its name, or there is neither. */
+static bool is_stem_left(uint32_t dialect, const Text *path, const char *made, size_t made_len)
+{
+    typed_path_span name, stem;
+    bool is_named = is_part(typed_path_file_name(dialect, made, made_len, &name));
+    if (!is_part(typed_path_file_stem(dialect, path->at, path->len, &stem)))
+        return !is_named;
+    return is_named && name.length == stem.length && memcmp(made + name.start, path->at + stem.start, stem.length) == 0;
+}
+
+/* Raises the error that a function of _errors.py makes of a text and of what was handed in for it. */
+static PyObject *raised_of(const char *function, uint32_t dialect, const char *at, size_t len, PyObject *from)
+{
+    PyObject *text = decoded(dialect, at, len);
+    if (text)
+        raised(function, "(OO)", text, from);
+    Py_XDECREF(text);
+    return NULL;
+}
+
+/* The path with another extension, or without one; `from` is what was handed in for it. */
+static PyObject *extended(Path *path, const Text *text, const char *extension, size_t extension_len, PyObject *from)
+{
+    char room[ROOM];
+    size_t size = TYPED_PATH_EXTENSION_BOUND(text->len, extension_len), len;
+    char *out = room_of(room, size);
+    if (!out)
         return NULL;
-    typed_path_reading reading = reading_of(&text);
-    typed_path_component piece;
-    return PyBool_FromLong(
-        is_next(((Path *)self)->dialect, &text, &reading, &piece) && piece.kind == TYPED_PATH_KIND_NAME &&
-        piece.start == 0 && piece.length == text.len);
+    memcpy(out, "a.", 2);
+    if (extension_len)
+        memcpy(out + 2, extension, extension_len);
+    bool is_extension = is_name(path->dialect, &(Text){out, extension_len + 2, NULL, false});
+    uint32_t status = typed_path_with_extension(
+        path->dialect, text->at, text->len, extension, extension_len, out, size, &len);
+    PyObject *answer;
+    if (!is_extension)
+        answer = raised_of("not_an_extension", path->dialect, extension, extension_len, from);
+    else if (status != TYPED_PATH_STATUS_DONE)
+        answer = failed(status, Py_None, path->dialect, text, NULL);
+    else if (!extension_len && !is_stem_left(path->dialect, text, out, len))
+        answer = raised("not_a_name_without", "(O)", path);
+    else
+        answer = made_of(LIKE_SELF, path->dialect, out, len);
+    freed(out, room);
+    return answer;
+}
+
+/* The one word of a call, which may be handed in by this name. */
+static PyObject *word_of(PyObject *const *words, Py_ssize_t count, PyObject *names, const char *name)
+{
+    Py_ssize_t named = names ? PyTuple_Size(names) : 0;
+    if (count + named == 1 && (!named || PyUnicode_CompareWithASCIIString(PyTuple_GetItem(names, 0), name) == 0))
+        return words[0];
+    return PyErr_Format(PyExc_TypeError, "it takes one text, the %s", name);
+}
+
+static PyObject *path_with_extension(PyObject *self, PyObject *const *words, Py_ssize_t count, PyObject *names)
+{
+    PyObject *const unused = NULL;
+    READ_SELF(text);
+    Text extension;
+    PyObject *from = word_of(words, count, names, "extension");
+    if (!from || !read_text(path->dialect, from, &extension))
+        return NULL;
+    PyObject *answer = extended(path, &text, extension.at, extension.len, from);
+    Py_XDECREF(extension.held);
+    return answer;
+}
+
+/* A suffix has its dot at the front, and more behind that, or is empty. */
+static PyObject *path_with_suffix(PyObject *self, PyObject *const *words, Py_ssize_t count, PyObject *names)
+{
+    PyObject *const unused = NULL;
+    READ_SELF(text);
+    Text suffix;
+    typed_path_span name;
+    PyObject *answer, *from = word_of(words, count, names, "suffix");
+    if (!from || !read_text(path->dialect, from, &suffix))
+        return NULL;
+    if (suffix.len == 1 || (suffix.len && *suffix.at != '.'))
+        answer = raised_of("not_a_suffix", path->dialect, suffix.at, suffix.len, from);
+    else if (!is_part(typed_path_file_name(path->dialect, text.at, text.len, &name)))
+        answer = raised("no_name", "(O)", path);
+    else
+        answer = extended(path, &text, suffix.at + (suffix.len > 0), suffix.len - (suffix.len > 0), from);
+    Py_XDECREF(suffix.held);
+    return answer;
 }
 
 /* The text with each separator written `/`. */
@@ -1474,7 +1566,6 @@ static PyMethodDef path_methods[] = {
     WITH_ONE(common_ancestor, DOC_common_ancestor),
     WITH_ONE(strip_prefix, DOC_strip_prefix),
     WITH_ONE(_with_file_name, NULL),
-    WITH_ONE(_with_extension, NULL),
     WITH_ONE(_absolutize, NULL),
     WITH_ONE(_absolutize_in_windows, NULL),
     WITH_ONE(_read, NULL),
@@ -1483,6 +1574,8 @@ static PyMethodDef path_methods[] = {
     WITH_ONE(_like, NULL),
     WITH_WORDS(join, DOC_join),
     {"joinpath", FAST(path_join), METH_FASTCALL, DOC_joinpath},
+    {"with_extension", FAST(path_with_extension), METH_FASTCALL | METH_KEYWORDS, DOC_with_extension},
+    {"with_suffix", FAST(path_with_suffix), METH_FASTCALL | METH_KEYWORDS, DOC_with_suffix},
     {"relative_to", FAST(path_relative_to), METH_FASTCALL | METH_KEYWORDS, DOC_relative_to},
     WITH_WORDS(_convert, NULL),
     WITH_WORDS(_batch, NULL),

@@ -28,7 +28,8 @@ MADE = ("normalize", "clean", "simplified", "as_posix")
 PARTS = ("name", "stem", "extension", "suffix", "suffixes", "drive", "root", "anchor", "parent", "parents", "parts")
 OF_OTHER = (
     "join", "join_checked", "join_portable", "resolve_checked", "is_within", "starts_with", "ends_with",
-    "common_ancestor", "strip_prefix", "relative_to", "is_relative_to", "_with_file_name", "_with_extension", "_read",
+    "common_ancestor", "strip_prefix", "relative_to", "is_relative_to", "_with_file_name", "with_extension",
+    "with_suffix", "_read",
 )
 
 
@@ -80,6 +81,9 @@ class Alike(unittest.TestCase):
                     self.assertEqual(*(told(getattr(it, name)) for it in pair), (name, text))
                 for name in OF_OTHER:
                     self.assertEqual(*(answered(getattr(it, name), another) for it in pair), (name, text, another))
+                for suffix in ("", ".", ".x", "x", f".{another}"):
+                    self.assertEqual(*(answered(it.with_suffix, suffix) for it in pair), (text, suffix))
+                    self.assertEqual(*(answered(it.with_extension, suffix[1:]) for it in pair), (text, suffix))
                 self.assertEqual(*(answered(lambda it=it: it.relative_to(another, walk_up=True)) for it in pair))
                 for checks in (False, True):
                     self.assertEqual(*(answered(it._convert, 1 - it._dialect, checks) for it in pair), text)
@@ -191,6 +195,10 @@ def calls_of(path, other):
         lambda: unix.join_checked("a", other), lambda: path._check(), lambda: path._check_portable(), lambda: path._text(b"a"), lambda: path._is_name(b"a"),
         lambda: unix.is_within(b"a", other), lambda: windows.clean("a"), lambda: unix.join_checked("a", ".."),
         lambda: unix.join("\ud800", "a"), lambda: unix.join("a", 1), lambda: setattr(path, "a", 1),
+        lambda: path.with_suffix(""), lambda: path.with_suffix(suffix=".x"), lambda: path.with_suffix("x"),
+        lambda: path.with_suffix(".x/y"), lambda: path.with_suffix(), lambda: path.with_suffix(other=".x"),
+        lambda: path.with_extension(""), lambda: path.with_extension(extension="x"), lambda: path.with_extension("/"),
+        lambda: type(path)("a/..x").with_extension(""), lambda: type(path)("a/..").with_suffix(".x"),
     ]
 
 
@@ -198,7 +206,7 @@ def calls_in_python(path):
     """Calls that are written in Python, and make use of those."""
     return [
         lambda: repr(path), lambda: pickle.dumps(path), lambda: path.components, lambda: path.with_name("x"),
-        lambda: path.with_suffix(".x"), lambda: path.to_windows_checked(), lambda: path.to_unix(), lambda: path.match("*"),
+        lambda: path.to_windows_checked(), lambda: path.to_unix(), lambda: path.match("*"),
         lambda: path.full_match("**"), lambda: path.absolutize(), lambda: path.join_checked_batch(["a", "..", "b"]),
         lambda: extract_names(path, ["a", ".."]), lambda: path.join_checked_into(["a" * 30], bytearray(3)),
         lambda: path.check_portable(),

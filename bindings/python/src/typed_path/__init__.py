@@ -305,7 +305,8 @@ class TypedPath(_Path):
         Traceback (most recent call last):
         typed_path.NoName: 'a/..' has no name
         """
-        self._look_for_name()
+        if not self.name:
+            raise _errors.no_name(self)
         made = self.with_file_name(name)
         if not made.name:
             raise BaseLosesPrefix(f"{str(self.parent)!r} does not keep its prefix", self.parent)
@@ -318,44 +319,6 @@ class TypedPath(_Path):
         UnixPath('/a/c.gz')
         """
         return self.with_name(self._read(stem) + self._read(self.suffix))
-
-    def _look_for_name(self) -> None:
-        if not self.name:
-            raise NoName(f"{str(self)!r} has no name", self)
-
-    def with_extension(self: P, extension: Name) -> P:
-        """The path with another extension, without a dot, or with none; the same path if it has no name. Raises
-        `NotAnExtension`, a `ValueError`, for one with a separator, and where `.` or `..` would be left of the name.
-
-        >>> UnixPath("a.tar.gz").with_extension("zip"), UnixPath("a.txt").with_extension("")
-        (UnixPath('a.tar.zip'), UnixPath('a'))
-        >>> UnixPath("/srv/a.txt").with_extension("x/../../../etc/passwd")
-        Traceback (most recent call last):
-        typed_path.NotAnExtension: 'x/../../../etc/passwd' is not an extension
-        """
-        raw = self._read(extension)
-        if not self._is_name(b"a." + raw):
-            raise NotAnExtension(f"{self._text(raw)!r} is not an extension", extension)
-        made = self._with_extension(raw)
-        if not raw and made.name != self.stem:
-            raise NotAnExtension(f"{self.name!r} without its extension is not a name", self)
-        return made
-
-    def with_suffix(self: P, suffix: Name) -> P:
-        """`with_extension` of a path that has a name. A suffix has its dot at the front, and more behind that, or is
-        empty; it raises `NotAnExtension` for another, and `NoName` for a path without a name.
-
-        >>> UnixPath("a.tar.gz").with_suffix(".zip"), UnixPath("a.txt").with_suffix("")
-        (UnixPath('a.tar.zip'), UnixPath('a'))
-        >>> UnixPath("a.txt").with_suffix("zip")
-        Traceback (most recent call last):
-        typed_path.NotAnExtension: 'zip' is not a suffix
-        """
-        raw = self._read(suffix)
-        if raw and (raw[:1] != b"." or raw == b"."):
-            raise NotAnExtension(f"{self._text(raw)!r} is not a suffix", suffix)
-        self._look_for_name()
-        return self.with_extension(raw[1:])
 
     def absolutize(self: P, directory: Union[str, bytes, UnixPath, WindowsPath, None] = None) -> P:
         r"""The normal path, read from a directory where it is not absolute: a path of either dialect, a text of Unix,

@@ -6,7 +6,7 @@ import sys
 
 TYPE_CHECKING = False  # which type checkers take for true
 if TYPE_CHECKING:
-    from typing import NamedTuple, Optional
+    from typing import Any, NamedTuple, Optional
 
     from . import TypedPath
 else:
@@ -250,6 +250,26 @@ def not_a_beginning(path: object, base: object) -> Exception:
     """The error of a base that a path does not begin with."""
     shown = base if isinstance(base, bytes) else str(base)
     return StripPrefixError(f"{str(path)!r} does not begin with {shown!r}", path, base)
+
+
+def not_an_extension(text: str, extension: object) -> Exception:
+    """The error of what has a separator."""
+    return NotAnExtension(f"{text!r} is not an extension", extension)
+
+
+def not_a_suffix(text: str, suffix: object) -> Exception:
+    """The error of what has no dot at the front, or nothing behind it."""
+    return NotAnExtension(f"{text!r} is not a suffix", suffix)
+
+
+def not_a_name_without(path: Any) -> Exception:
+    """The error of a path that has no name without its extension."""
+    return NotAnExtension(f"{path.name!r} without its extension is not a name", path)
+
+
+def no_name(path: object) -> Exception:
+    """The error of a path that has no name."""
+    return NoName(f"{str(path)!r} has no name", path)
 
 
 def too_small(name: object, place: int) -> Exception:

@@ -688,8 +688,43 @@ class Path:
     def _with_file_name(self: P, name: Text) -> P:
         return self._put("with_file_name", self._read(name))
 
-    def _with_extension(self: P, extension: Text) -> P:
-        return self._put("with_extension", self._read(extension))
+    def with_extension(self: P, extension: Union[str, bytes]) -> P:
+        """The path with another extension, without a dot, or with none; the same path if it has no name. Raises
+        `NotAnExtension`, a `ValueError`, for one with a separator, and where `.` or `..` would be left of the name.
+
+        >>> UnixPath("a.tar.gz").with_extension("zip"), UnixPath("a.txt").with_extension("")
+        (UnixPath('a.tar.zip'), UnixPath('a'))
+        >>> UnixPath("/srv/a.txt").with_extension("x/../../../etc/passwd")
+        Traceback (most recent call last):
+        typed_path.NotAnExtension: 'x/../../../etc/passwd' is not an extension
+        """
+        return self._extended(self._read(extension), extension)
+
+    def with_suffix(self: P, suffix: Union[str, bytes]) -> P:
+        """`with_extension` of a path that has a name. A suffix has its dot at the front, and more behind that, or is
+        empty; it raises `NotAnExtension` for another, and `NoName` for a path without a name.
+
+        >>> UnixPath("a.tar.gz").with_suffix(".zip"), UnixPath("a.txt").with_suffix("")
+        (UnixPath('a.tar.zip'), UnixPath('a'))
+        >>> UnixPath("a.txt").with_suffix("zip")
+        Traceback (most recent call last):
+        typed_path.NotAnExtension: 'zip' is not a suffix
+        """
+        raw = self._read(suffix)
+        if raw and (raw[:1] != b"." or raw == b"."):
+            raise _errors.not_a_suffix(self._text(raw), suffix)
+        if not self.name:
+            raise _errors.no_name(self)
+        return self._extended(raw[1:], suffix)
+
+    def _extended(self: P, raw: bytes, told: object) -> P:
+        """The path with this extension. `told` is what a refusal tells of."""
+        if not self._is_name(b"a." + raw):
+            raise _errors.not_an_extension(self._text(raw), told)
+        made = self._put("with_extension", raw)
+        if not raw and made.name != self.stem:
+            raise _errors.not_a_name_without(self)
+        return made
 
     def _absolutize(self: P, directory: bytes) -> P:
         return self._put("absolutize", directory, self)
