@@ -54,18 +54,25 @@ static pthread_once_t key_once = PTHREAD_ONCE_INIT;
 
 static const char *const separators[2] = {"/", "\\"};
 
-/* A path: its bytes, and where they stand. The hash, the text and the parts are kept once they were asked for. */
+/* What a path was asked, and keeps: a bit of `asked`, and of `answers`. The answer to the last one is whether a root stands
+   behind the prefix. */
+enum {
+    IS_ABSOLUTE = 1, HAS_ROOT = 2, IS_VALID = 4, IS_PORTABLE = 8, MAY_BE_DEVICE = 16, KEEPS_PREFIX = 32, ANCHOR = 64
+};
+
+/* A path: where its bytes stand, which are those of an object, or of its text where it was made of a str in UTF-8. What it
+   was asked is kept from then on. */
 typedef struct {
     PyObject_HEAD
-    PyObject *bytes; /* NULL until __init__ was called */
-    const char *at;
+    PyObject *bytes; /* NULL where they are those of the text, until they were asked for */
+    const char *at; /* NULL until __init__ was called */
     size_t len;
-    PyObject *text, *parts;
+    PyObject *text, *parts; /* NULL where they were not asked for */
     Py_hash_t hash; /* 0 where it was not asked for */
-    size_t prefix; /* its length, and whether a root stands behind it, once they were asked for */
-    bool has_root, has_anchor;
+    PyObject *name; /* NULL where it was not asked for */
+    uint32_t prefix; /* its length */
+    uint8_t dialect, asked, answers;
     bool hands_on; /* whether its class has a with_segments of its own */
-    uint32_t dialect;
 } Path;
 
 /* Bytes that are read, and what holds them. */
@@ -140,7 +147,7 @@ static Path *as_path(PyObject *from)
 static inline bool read_path(Path *path, Text *text)
 {
     *text = (Text){path->at, path->len, NULL, false};
-    if (path->bytes)
+    if (path->at)
         return true;
     PyErr_SetString(PyExc_AttributeError, "__init__ of this path was not called");
     return false;
@@ -240,7 +247,27 @@ static PyObject *decoded_span(const Path *path, typed_path_span span)
 
 /* What is made. */
 
-/* Gives a path its bytes, whose reference it takes. */
+/* Keeps what was made, whose reference it takes; while a codec made it, another thread may have kept its own. */
+static PyObject *kept(PyObject **place, PyObject *made)
+{
+    if (!made)
+        return NULL;
+    if (*place)
+        Py_DECREF(made);
+    else
+        *place = made;
+    Py_INCREF(*place);
+    return *place;
+}
+
+/* A reference more. */
+static PyObject *again(PyObject *kept)
+{
+    Py_INCREF(kept);
+    return kept;
+}
+
+/* Gives a path the bytes of an object, whose reference it takes. */
 static bool holds(Path *path, PyObject *bytes)
 {
     Text text;
@@ -487,6 +514,31 @@ static PyObject *parts_of(uint32_t dialect, const Text *path)
         READ_SELF(text); \
         return answer; \
     }
+/* A question that is kept once it was asked. */
+#define QUESTION(name, which) \
+    static PyObject *path_##name(PyObject *self, PyObject *unused) \
+    { \
+        if (!(((Path *)self)->asked & which)) { \
+            READ_SELF(text); \
+            bool answer = false; \
+            uint32_t status = typed_path_##name(path->dialect, text.at, text.len, &answer); \
+            if (status != TYPED_PATH_STATUS_DONE) \
+                return failed(status, Py_None, path->dialect, &text, NULL); \
+            path->asked |= which; \
+            path->answers |= answer ? which : 0; \
+        } \
+        return PyBool_FromLong(((Path *)self)->answers & which); \
+    }
+/* A property that is kept once it was asked for. */
+#define KEPT(name, answer) \
+    static PyObject *path_get_##name(PyObject *self, void *unused) \
+    { \
+        PyObject **kept_at = &((Path *)self)->name; \
+        if (*kept_at) \
+            return again(*kept_at); \
+        READ_SELF(text); \
+        return kept(kept_at, answer); \
+    }
 /* A call of the path and another one. */
 #define OF_OTHER(name, answer) \
     static PyObject *path_##name(PyObject *self, PyObject *from) \
@@ -515,14 +567,16 @@ static PyObject *parts_of(uint32_t dialect, const Text *path)
     }
 #define LIKE_SELF ((Made){path, false})
 
+KEPT(bytes, PyBytes_FromStringAndSize(text.at, (Py_ssize_t)text.len))
+KEPT(text, decoded(path->dialect, text.at, text.len))
 OF_PATH(normalize, put(typed_path_normalize, path->dialect, &text, LIKE_SELF))
 OF_PATH(clean, put(typed_path_clean, path->dialect, &text, LIKE_SELF))
-OF_PATH(is_absolute, asked(typed_path_is_absolute, path->dialect, &text))
-OF_PATH(has_root, asked(typed_path_has_root, path->dialect, &text))
-OF_PATH(is_valid, asked(typed_path_is_valid, path->dialect, &text))
-OF_PATH(is_portable, asked(typed_path_is_portable, path->dialect, &text))
-OF_PATH(may_be_device, asked(typed_path_may_be_device, path->dialect, &text))
-OF_PATH(keeps_prefix, asked(typed_path_keeps_prefix, path->dialect, &text))
+QUESTION(is_absolute, IS_ABSOLUTE)
+QUESTION(has_root, HAS_ROOT)
+QUESTION(is_valid, IS_VALID)
+QUESTION(is_portable, IS_PORTABLE)
+QUESTION(may_be_device, MAY_BE_DEVICE)
+QUESTION(keeps_prefix, KEEPS_PREFIX)
 OF_PATH(_check, PyLong_FromUnsignedLong(typed_path_check(path->dialect, text.at, text.len)))
 OF_PATH(_check_portable, PyLong_FromUnsignedLong(typed_path_check_portable(path->dialect, text.at, text.len)))
 CHECKED(join_checked, TYPED_PATH_STATUS_INVALID_FILENAME)
@@ -553,11 +607,20 @@ OF_PATH(to_ascii_lowercase, put(typed_path_to_ascii_lowercase, path->dialect, &t
 /* The path that a span is, of the class of this one. */
 static PyObject *lent(Path *path, typed_path_span span)
 {
-    if (span.length == path->len) {
-        Py_INCREF(path->bytes);
-        return like_of(path, path->bytes);
+    if (span.length < path->len)
+        return like_of(path, PyBytes_FromStringAndSize(path->at + span.start, (Py_ssize_t)span.length));
+    if (path->hands_on)
+        return like_of(path, path_get_bytes((PyObject *)path, NULL));
+    Path *same = blank(path);
+    if (same) {
+        Py_XINCREF(path->text);
+        Py_XINCREF(path->bytes);
+        same->at = path->at;
+        same->len = path->len;
+        same->text = path->text;
+        same->bytes = path->bytes;
     }
-    return like_of(path, PyBytes_FromStringAndSize(path->at + span.start, (Py_ssize_t)span.length));
+    return (PyObject *)same;
 }
 
 static PyObject *spanned(Path *path, uint32_t status, typed_path_span span)
@@ -710,7 +773,9 @@ static PyObject *path__convert(PyObject *self, PyObject *const *words, Py_ssize_
     else if (status == TYPED_PATH_STATUS_OUT_OF_MEMORY)
         PyErr_NoMemory();
     else
-        raised("failed", "(kOkOkO)", (unsigned long)status, self, (unsigned long)path->dialect, path->bytes, to, Py_None);
+        raised(
+            "failed", "(kOky#kO)", (unsigned long)status, self, (unsigned long)path->dialect, text.at, (Py_ssize_t)text.len,
+            to, Py_None);
     freed(out, room);
     return answer;
 }
@@ -873,7 +938,7 @@ static PyObject *part(Spans *call, Path *path, const Text *text, bool is_optiona
         return PyUnicode_FromStringAndSize("", 0);
     Py_RETURN_NONE;
 }
-PROPERTY(name, part(typed_path_file_name, path, &text, false))
+KEPT(name, part(typed_path_file_name, path, &text, false))
 PROPERTY(stem, part(typed_path_file_stem, path, &text, false))
 PROPERTY(extension, part(typed_path_extension, path, &text, true))
 
@@ -907,17 +972,32 @@ static PyObject *suffixes(const Path *path, const Text *text)
 PROPERTY(suffixes, suffixes(path, &text))
 
 /* The drive, the root, or both. */
-static PyObject *anchor(Path *path, const Text *text, bool with_drive, bool with_root)
+static PyObject *anchor(Path *path, bool with_drive, bool with_root)
 {
-    if (!path->has_anchor) {
-        path->prefix = anchor_of(path->dialect, text, &path->has_root);
-        path->has_anchor = true;
+    size_t prefix = path->prefix;
+    bool has_root = path->answers & ANCHOR;
+    Text text;
+    if (!(path->asked & ANCHOR)) {
+        if (!read_path(path, &text))
+            return NULL;
+        prefix = anchor_of(path->dialect, &text, &has_root);
+        if (prefix <= UINT32_MAX) {
+            path->prefix = (uint32_t)prefix;
+            path->asked |= ANCHOR;
+            path->answers |= has_root ? ANCHOR : 0;
+        }
     }
-    return anchored(path->dialect, text->at, with_drive ? path->prefix : 0, with_root && path->has_root);
+    return anchored(path->dialect, path->at, with_drive ? prefix : 0, with_root && has_root);
 }
-PROPERTY(drive, anchor(path, &text, true, false))
-PROPERTY(root, anchor(path, &text, false, true))
-PROPERTY(anchor, anchor(path, &text, true, true))
+#define OF_ANCHOR(name, with_drive, with_root) \
+    static PyObject *path_get_##name(PyObject *self, void *unused) \
+    { \
+        (void)unused; \
+        return anchor((Path *)self, with_drive, with_root); \
+    }
+OF_ANCHOR(drive, true, false)
+OF_ANCHOR(root, false, true)
+OF_ANCHOR(anchor, true, true)
 
 static PyObject *parent(Path *path, const Text *text)
 {
@@ -942,26 +1022,13 @@ static PyObject *parents(Path *path, Text rest)
 }
 PROPERTY(parents, parents(path, text))
 
-static PyObject *parts(Path *path, const Text *text)
-{
-    if (!path->parts)
-        path->parts = parts_of(path->dialect, text);
-    Py_XINCREF(path->parts);
-    return path->parts;
-}
-PROPERTY(parts, parts(path, &text))
-PROPERTY(_bytes, (Py_INCREF(path->bytes), (void)text, path->bytes))
+KEPT(parts, parts_of(path->dialect, &text))
 
 /* What Python asks of each object. */
 
 static PyObject *path_str(PyObject *self)
 {
-    PyObject *const unused = NULL;
-    READ_SELF(text);
-    if (!path->text)
-        path->text = decoded(path->dialect, text.at, text.len);
-    Py_XINCREF(path->text);
-    return path->text;
+    return path_get_text(self, NULL);
 }
 
 static PyObject *path___fspath__(PyObject *self, PyObject *unused)
@@ -972,7 +1039,7 @@ static PyObject *path___fspath__(PyObject *self, PyObject *unused)
 
 static PyObject *path___bytes__(PyObject *self, PyObject *unused)
 {
-    return path_get__bytes(self, unused);
+    return path_get_bytes(self, unused);
 }
 
 static Py_hash_t path_hash(PyObject *self)
@@ -1103,30 +1170,46 @@ static PyObject *path_new(PyTypeObject *type, PyObject *args, PyObject *named)
     return PyErr_Format(PyExc_TypeError, "a path is a UnixPath or a WindowsPath");
 }
 
+/* The bytes of a text with those behind it pushed onto it one by one. */
+static PyObject *pushed(uint32_t dialect, Text text, PyObject *args)
+{
+    PyObject *bytes = NULL;
+    for (Py_ssize_t at = 1; at < PyTuple_Size(args); ++at) {
+        Text other;
+        PyObject *next = NULL;
+        if (read_text(dialect, PyTuple_GetItem(args, at), &other)) {
+            next = put_other(typed_path_join, dialect, &text, &other, (Made){NULL, true}, Py_None);
+            Py_XDECREF(other.held);
+        }
+        Py_XDECREF(bytes);
+        bytes = next;
+        if (!bytes || !read_bytes(bytes, &text))
+            break;
+    }
+    return bytes;
+}
+
 /* Gives a path its bytes: those of the first text, with the others pushed onto it. */
 static bool is_filled_from(Path *path, PyObject *args)
 {
     Py_ssize_t count = PyTuple_Size(args);
     Text text = {"", 0, NULL, false};
-    PyObject *from = count ? PyTuple_GetItem(args, 0) : NULL;
+    PyObject *from = count ? PyTuple_GetItem(args, 0) : NULL, *bytes = NULL;
     if (from && !read_text(path->dialect, from, &text))
         return false;
-    PyObject *bytes = from && PyBytes_CheckExact(from) ? (Py_INCREF(from), from)
-                                                       : PyBytes_FromStringAndSize(text.at, (Py_ssize_t)text.len);
-    for (Py_ssize_t at = 1; bytes && at < count; ++at) {
-        Text made, other;
-        PyObject *next = NULL;
-        if (read_bytes(bytes, &made) && read_text(path->dialect, PyTuple_GetItem(args, at), &other)) {
-            next = put_other(typed_path_join, path->dialect, &made, &other, (Made){NULL, true}, Py_None);
-            Py_XDECREF(other.held);
-        }
-        Py_DECREF(bytes);
-        bytes = next;
-    }
-    bool is_filled = holds(path, bytes);
-    if (is_filled && count == 1 && PyUnicode_CheckExact(from) && !text.held) {
-        Py_INCREF(from);
-        path->text = from;
+    bool is_of_str = count == 1 && PyUnicode_CheckExact(from) && !text.held, is_filled = true;
+    if (count > 1)
+        bytes = pushed(path->dialect, text, args);
+    else if (!is_of_str)
+        bytes = from && PyBytes_CheckExact(from) ? again(from) : PyBytes_FromStringAndSize(text.at, (Py_ssize_t)text.len);
+    if (path->at) { /* while a text was read, __init__ was called */
+        Py_XDECREF(bytes);
+    } else if (is_of_str) {
+        path->text = again(from);
+        path->at = text.at;
+        path->len = text.len;
+    } else {
+        is_filled = holds(path, bytes);
     }
     Py_XDECREF(text.held);
     return is_filled;
@@ -1135,7 +1218,7 @@ static bool is_filled_from(Path *path, PyObject *args)
 static int path_init(PyObject *self, PyObject *args, PyObject *named)
 {
     Path *path = (Path *)self;
-    if (path->bytes)
+    if (path->at)
         return 0;
     if (named && PyDict_Size(named) > 0) {
         PyErr_SetString(PyExc_TypeError, "a path is made of texts alone, none by a name");
@@ -1173,6 +1256,7 @@ static void path_dealloc(PyObject *self)
     Py_XDECREF(path->bytes);
     Py_XDECREF(path->text);
     Py_XDECREF(path->parts);
+    Py_XDECREF(path->name);
     ((freefunc)PyType_GetSlot(type, Py_tp_free))(self);
     Py_DECREF(type);
 }
@@ -1599,7 +1683,7 @@ static PyGetSetDef path_properties[] = {
     GET(parent, DOC_parent),
     GET(parents, DOC_parents),
     GET(parts, DOC_parts),
-    GET(_bytes, NULL),
+    {"_bytes", path_get_bytes, NULL, NULL, NULL},
     {NULL, NULL, NULL, NULL, NULL},
 };
 

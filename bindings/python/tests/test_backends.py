@@ -199,6 +199,10 @@ def calls_of(path, other):
         lambda: path.with_suffix(".x/y"), lambda: path.with_suffix(), lambda: path.with_suffix(other=".x"),
         lambda: path.with_extension(""), lambda: path.with_extension(extension="x"), lambda: path.with_extension("/"),
         lambda: type(path)("a/..x").with_extension(""), lambda: type(path)("a/..").with_suffix(".x"),
+        lambda: path._bytes, lambda: path._like(path._bytes).name,
+        *(lambda name=name: getattr(type(path)(bytes(path)), name) for name in (*PARTS, "_bytes")),
+        *(lambda name=name: getattr(type(path)(str(path)), name) for name in (*PARTS, "_bytes")),
+        *(lambda name=name: getattr(path / "a", name)() for name in (*QUESTIONS, "__str__", "__hash__", "__bytes__")),
     ]
 
 

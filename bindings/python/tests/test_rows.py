@@ -375,6 +375,41 @@ class NothingChanges(unittest.TestCase):
             joined /= "c"
             self.assertEqual((bytes(path), hash(path), joined.name), (b"a/b", number, "c"))
 
+    def test_path_that_its_own_text_makes(self):
+        """A text that is read calls `__init__` of the path that is made of it."""
+        for kind in (UnixPath, WindowsPath, Slotted):
+            path = kind.__new__(kind)
+
+            class Within:
+                def __fspath__(self):
+                    path.__init__("a/b.c")
+                    found.append((bytes(path), str(path), path.parts, hash(path)))
+                    return "other/one"
+
+            for segments in ((Within(),), (Within(), "x"), ("x", Within())):
+                path, found = kind.__new__(kind), []
+                path.__init__(*segments)
+                self.assertEqual((bytes(path), str(path), path.parts, hash(path)), *found)
+
+    def test_what_is_kept(self):
+        """What is asked again is answered alike, however the path was made."""
+        for kind in (UnixPath, WindowsPath, Slotted):
+            for text in ("", "/", "a", "/a//b.c/.", "C:\\a.b", "C:a", "\\\\s\\h\\a", "nul", "日/é.x", "\udcff/a", "a/.."):
+                of_str, of_bytes = kind(text), kind(os.fsencode(text))
+                joined, shared = kind("x/..").join(text), of_str.simplified()
+                for path in (of_str, of_bytes, joined, shared):
+                    once = [
+                        (name, getattr(it, name)) for it in (path, kind(bytes(path)))
+                        for name in ("parts", "name", "drive", "root", "anchor", "_bytes")
+                    ] + [
+                        (name, getattr(it, name)()) for it in (path, kind(bytes(path)))
+                        for name in ("is_absolute", "has_root", "is_valid", "is_portable", "may_be_device", "keeps_prefix",
+                                     "__str__", "__fspath__", "__bytes__", "__hash__")
+                    ]
+                    for name, answer in once:
+                        again = getattr(path, name)
+                        self.assertEqual(again() if callable(again) else again, answer, (kind, text, name))
+
     def test_repr(self):
         texts = ["", "a", "/a//b/.", "'", '"', "\\", "\n", "日", "\udcff", "a\0", b"\xff", b"\xe6\x97", b"caf\xe9"]
         for kind in (UnixPath, WindowsPath, Slotted):

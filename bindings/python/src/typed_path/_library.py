@@ -161,7 +161,9 @@ class Path:
     def __init__(self, *segments: Text) -> None:
         """The path of the first text, with the others pushed onto it one by one. Called again it changes nothing."""
         if not hasattr(self, "_bytes"):
-            _put(self, self._pushed(*segments))
+            made = self._pushed(*segments)
+            if not hasattr(self, "_bytes"):  # while a text was read, this was called
+                _put(self, made)
 
     def _pushed(self, path: Text = b"", *others: Text) -> bytes:
         made = self._read(path)
