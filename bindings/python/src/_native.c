@@ -43,6 +43,8 @@ PyAPI_FUNC(void) PyBuffer_Release(Py_buffer *buffer);
 #endif
 
 #define ROOM 1024          /* what an answer has on the stack; a longer one is put into memory of its own */
+#define PIECES 64          /* how many components are read on the stack */
+#define NAMES_RECENT 256   /* how many names a thread keeps that it has met in parts */
 #define NAMES_AT_ONCE 65536 /* how many names of a batch are joined while the lock of Python is let go */
 
 /* What the text of a path is encoded by in each dialect, as _errors.py says; and the key of all hashes. */
@@ -476,6 +478,12 @@ static bool is_put_behind(PyObject *list, PyObject *item)
     return is_put;
 }
 
+/* Puts an item into a new tuple, and takes its reference. */
+static bool is_item(PyObject *tuple, Py_ssize_t at, PyObject *item)
+{
+    return item && PyTuple_SetItem(tuple, at, item) == 0;
+}
+
 static PyObject *tuple_of(PyObject *list, bool is_whole)
 {
     PyObject *tuple = is_whole ? PyList_AsTuple(list) : NULL;
@@ -483,19 +491,126 @@ static PyObject *tuple_of(PyObject *list, bool is_whole)
     return tuple;
 }
 
-static PyObject *parts_of(uint32_t dialect, const Text *path)
+/* A short name of ASCII: words of its first and of its last bytes, which are all that it has, and its text. */
+typedef struct {
+    uint64_t words[4];
+    size_t len;
+    PyObject *text;
+} Name;
+
+static void forget_names(PyObject *held)
 {
-    PyObject *list = PyList_New(0);
-    bool has_root, is_whole = list;
-    size_t prefix = anchor_of(dialect, path, &has_root);
-    if (is_whole && (prefix || has_root))
-        is_whole = is_put_behind(list, anchored(dialect, path->at, prefix, has_root));
-    typed_path_reading reading = reading_of(path);
-    typed_path_component piece;
-    while (is_whole && is_next(dialect, path, &reading, &piece))
-        if (piece.kind != TYPED_PATH_KIND_ROOT && piece.kind < TYPED_PATH_KIND_PREFIX_VERBATIM)
-            is_whole = is_put_behind(list, decoded(dialect, path->at + piece.start, piece.length));
-    return tuple_of(list, is_whole);
+    Name *names = PyCapsule_GetPointer(held, NULL);
+    for (size_t at = 0; at < NAMES_RECENT; ++at)
+        Py_XDECREF(names[at].text);
+    PyMem_Free(names);
+}
+
+/* The names that this thread has met last in parts, or NULL. They lie with what Python keeps of a thread, under the type
+   that all paths have, so no lock is needed, and no interpreter meets an object of another. */
+static Name *recent_names(PyTypeObject *type)
+{
+    PyTypeObject *top = type;
+    while (type != &PyBaseObject_Type) {
+        top = type;
+        type = PyType_GetSlot(type, Py_tp_base);
+    }
+    PyObject *kept_here = PyThreadState_GetDict();
+    PyObject *held = kept_here ? PyDict_GetItem(kept_here, (PyObject *)top) : NULL;
+    if (!kept_here || held)
+        return held ? PyCapsule_GetPointer(held, NULL) : NULL;
+    Name *names = PyMem_Calloc(NAMES_RECENT, sizeof *names);
+    held = names ? PyCapsule_New(names, NULL, forget_names) : NULL;
+    if (!held)
+        PyMem_Free(names);
+    bool is_kept = held && PyDict_SetItem(kept_here, (PyObject *)top, held) == 0;
+    Py_XDECREF(held);
+    PyErr_Clear();
+    return is_kept ? names : NULL;
+}
+
+/* Reads a name of 2 to 32 bytes, if it is ASCII. */
+static inline bool read_short(const char *at, size_t len, Name *name)
+{
+    uint64_t *words = name->words;
+    *name = (Name){{0, 0, 0, 0}, len, NULL};
+    if (len < 2 || len > 32)
+        return false;
+    if (len >= 16) {
+        memcpy(&words[2], at + 8, 8);
+        memcpy(&words[3], at + len - 16, 8);
+    }
+    if (len >= 8) {
+        memcpy(&words[0], at, 8);
+        memcpy(&words[1], at + len - 8, 8);
+    } else if (len >= 4) {
+        memcpy(&words[0], at, 4);
+        memcpy(&words[1], at + len - 4, 4);
+    } else {
+        memcpy(&words[0], at, 2);
+        memcpy(&words[1], at + len - 2, 2);
+    }
+    return !((words[0] | words[1] | words[2] | words[3]) & UINT64_C(0x8080808080808080));
+}
+
+/* The text of a name. A short one is one object in all paths that it is met in, until another takes its place. */
+static PyObject *text_of_name(Name *names, uint32_t dialect, const char *at, size_t len)
+{
+    Name name;
+    if (!names || !is_utf8[dialect] || !read_short(at, len, &name))
+        return decoded(dialect, at, len);
+    uint64_t mixed = len;
+    for (size_t word = 0; word < 4; ++word)
+        mixed = (mixed ^ name.words[word]) * UINT64_C(0x9e3779b97f4a7c15);
+    Name *place = &names[(mixed >> 32) % NAMES_RECENT];
+    if (place->text && place->len == len && memcmp(place->words, name.words, sizeof name.words) == 0)
+        return again(place->text);
+    name.text = decoded(dialect, at, len);
+    if (!name.text)
+        return NULL;
+    Py_XDECREF(place->text);
+    *place = name;
+    return again(name.text);
+}
+
+/* The texts of these components. A prefix and the root behind it are one. */
+static PyObject *texts_of(
+    Name *names, uint32_t dialect, const Text *path, const typed_path_component *pieces, size_t count)
+{
+    size_t prefix = count > 0 && pieces[0].kind >= TYPED_PATH_KIND_PREFIX_VERBATIM ? pieces[0].length : 0;
+    size_t place = prefix > 0;
+    bool has_root = place < count && pieces[place].kind == TYPED_PATH_KIND_ROOT;
+    place += has_root;
+    Py_ssize_t at = place > 0;
+    PyObject *tuple = PyTuple_New((Py_ssize_t)(count - place) + at);
+    bool is_whole = tuple;
+    if (is_whole && at)
+        is_whole = is_item(tuple, 0, anchored(dialect, path->at, prefix, has_root));
+    for (; is_whole && place < count; ++place, ++at)
+        is_whole = is_item(
+            tuple, at, text_of_name(names, dialect, path->at + pieces[place].start, pieces[place].length));
+    if (is_whole)
+        return tuple;
+    Py_XDECREF(tuple);
+    return NULL;
+}
+
+static PyObject *parts_of(PyTypeObject *type, uint32_t dialect, const Text *path)
+{
+    typed_path_component room[PIECES], *pieces = room;
+    size_t count = 0;
+    uint32_t status = typed_path_components(dialect, path->at, path->len, pieces, PIECES, &count);
+    if (status == TYPED_PATH_STATUS_TOO_SMALL) {
+        pieces = PyMem_Malloc(count * sizeof *pieces);
+        if (!pieces)
+            return PyErr_NoMemory();
+        status = typed_path_components(dialect, path->at, path->len, pieces, count, &count);
+    }
+    PyObject *texts = status == TYPED_PATH_STATUS_DONE ? texts_of(recent_names(type), dialect, path, pieces, count)
+                                                       : failed(status, Py_None, dialect, path, NULL);
+    if (pieces != room)
+        PyMem_Free(pieces);
+    return texts;
 }
 
 /* The methods of a path. */
@@ -1022,7 +1137,7 @@ static PyObject *parents(Path *path, Text rest)
 }
 PROPERTY(parents, parents(path, text))
 
-KEPT(parts, parts_of(path->dialect, &text))
+KEPT(parts, parts_of(Py_TYPE(self), path->dialect, &text))
 
 /* What Python asks of each object. */
 

@@ -107,6 +107,26 @@ class Alike(unittest.TestCase):
                         ]
                         self.assertEqual(*zip(written, buffers))
 
+    def test_names_that_recur(self):
+        """Short ones are one text in the parts of paths, in each thread; they are told apart, whatever their letters."""
+        wrong = []
+
+        def look(number):
+            chosen = random.Random(number)
+            for at in range(3000):
+                names = ["".join(chosen.choices("ab\u00e9", (9, 9, 1), k=chosen.randrange(1, 36))) for _ in range(4)]
+                kind = (UnixPath, WindowsPath)[at % 2]
+                if kind(kind._separator.join(names)).parts != tuple(names):
+                    wrong.append(names)
+
+        threads = [threading.Thread(target=look, args=(number,)) for number in range(4)]
+        for thread in threads:
+            thread.start()
+        for thread in threads:
+            thread.join()
+        self.assertEqual(wrong, [])
+        self.assertIs(UnixPath("/srv/www").parts[1], WindowsPath("srv").parts[0])
+
     def test_texts(self):
         """Those of C answer as those that go through a path."""
         from typed_path._texts import Texts
@@ -328,6 +348,7 @@ else:
 class Below(UnixPath):
     pass
 assert type(Below("a") / "b") is Below and UnixPath("a").join_checked_batch(["b"])[0] == ["a/b"]
+assert [Below("srv/www").parts, UnixPath("/srv/www").parts[1:]] == [("srv", "www")] * 2
 """
 
     @unittest.skipUnless(IS_NATIVE, "ctypes is not for each interpreter")
