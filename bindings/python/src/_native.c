@@ -176,7 +176,7 @@ static bool read_held(PyObject *held, Text *text)
     return true;
 }
 
-static bool read_str(uint32_t dialect, PyObject *from, Text *text)
+static inline bool read_str(uint32_t dialect, PyObject *from, Text *text)
 {
     if (is_utf8[dialect]) {
         Py_ssize_t len;
@@ -213,10 +213,16 @@ static bool read_other(uint32_t dialect, PyObject *from, Text *text)
     return true;
 }
 
+/* Whether an object is a str. Most are one and no more. */
+static inline bool is_str(PyObject *from)
+{
+    return PyUnicode_CheckExact(from) || PyUnicode_Check(from);
+}
+
 /* The bytes that a str, bytes, a path of this dialect or what os.fspath takes stands for. */
 static inline bool read_text(uint32_t dialect, PyObject *from, Text *text)
 {
-    if (PyUnicode_Check(from))
+    if (is_str(from))
         return read_str(dialect, from, text);
     if (PyBytes_Check(from))
         return read_bytes(from, text);
@@ -1203,7 +1209,7 @@ static PyObject *path_compared(PyObject *self, PyObject *from, int how)
 
 static bool is_text(PyObject *from)
 {
-    return PyUnicode_Check(from) || PyBytes_Check(from);
+    return is_str(from) || PyBytes_Check(from);
 }
 
 /* Whether an object has a text, as os.fspath takes it. */
@@ -1392,7 +1398,7 @@ typedef struct {
     PyObject *name; /* as it was handed in */
     Text text;
     uint32_t status;
-    size_t end; /* where its target ends */
+    size_t start, len; /* of its target */
 } Item;
 
 /* A batch, and the run of names that is joined at once. Its targets go into a list, as paths or as the names are, or
@@ -1401,7 +1407,7 @@ typedef struct {
     Path *base;
     PutsOther *call;
     uint32_t unwritten; /* what a str without bytes is refused for */
-    PyObject *targets;  /* NULL for a buffer */
+    PyObject *targets;  /* a list, NULL for a buffer */
     PyObject *refused;
     bool as_paths;
     char *buffer;
@@ -1413,6 +1419,12 @@ typedef struct {
     size_t before; /* how many names stand before the run */
     int are_bytes; /* whether the names are bytes; less than 0 before the first one */
 } Batch;
+
+/* Where a target stands in memory of the batch's own: at a word, as Python reads text fastest. */
+static size_t aligned(size_t at)
+{
+    return (at + sizeof(size_t) - 1) / sizeof(size_t) * sizeof(size_t);
+}
 
 static void forget_run(Batch *batch)
 {
@@ -1443,13 +1455,13 @@ static Item *next_item(Batch *batch)
 /* Reads the bytes of a name, which is a str or bytes as the first one is. */
 static bool read_name(Batch *batch, PyObject *name, Item *item)
 {
-    bool is_bytes = PyBytes_Check(name);
-    if ((!is_bytes && !PyUnicode_Check(name)) || (batch->are_bytes >= 0 && batch->are_bytes != is_bytes)) {
+    bool is_bytes = !is_str(name);
+    if ((is_bytes && !PyBytes_Check(name)) || (batch->are_bytes >= 0 && batch->are_bytes != is_bytes)) {
         PyErr_SetString(PyExc_TypeError, "names have to be all str, or all bytes");
         return false;
     }
     batch->are_bytes = is_bytes;
-    *item = (Item){name, {"", 0, NULL, is_bytes}, TYPED_PATH_STATUS_DONE, 0};
+    *item = (Item){name, {"", 0, NULL, is_bytes}, TYPED_PATH_STATUS_DONE, 0, 0};
     if (is_bytes ? read_bytes(name, &item->text) : read_str(batch->base->dialect, name, &item->text))
         return true;
     if (!PyErr_ExceptionMatches(PyExc_UnicodeEncodeError))
@@ -1471,7 +1483,7 @@ static int take_run(Batch *batch, PyObject *names)
             Py_DECREF(name);
             return -1;
         }
-        batch->size += TYPED_PATH_RESOLVE_BOUND(batch->base->len, item->text.len) + batch->end.len;
+        batch->size += aligned(TYPED_PATH_RESOLVE_BOUND(batch->base->len, item->text.len) + batch->end.len);
         ++batch->count;
     }
     return 1;
@@ -1487,10 +1499,10 @@ static uint32_t join_run(Batch *batch, char *out, size_t size, size_t *place)
     PyThreadState *lock = PyEval_SaveThread();
     for (size_t at = 0; at < batch->count; ++at) {
         Item *item = &batch->items[at];
-        size_t room = size - used;
+        size_t start = batch->targets ? aligned(used) : used, room = size - start;
         if (item->status == TYPED_PATH_STATUS_DONE)
             item->status =
-                batch->call(base->dialect, base->at, base->len, item->text.at, item->text.len, out + used, room, &len);
+                batch->call(base->dialect, base->at, base->len, item->text.at, item->text.len, out + start, room, &len);
         if (item->status == TYPED_PATH_STATUS_DONE && room - len < batch->end.len)
             item->status = TYPED_PATH_STATUS_TOO_SMALL;
         if (item->status == TYPED_PATH_STATUS_TOO_SMALL || item->status == TYPED_PATH_STATUS_OUT_OF_MEMORY) {
@@ -1499,10 +1511,12 @@ static uint32_t join_run(Batch *batch, char *out, size_t size, size_t *place)
             break;
         }
         if (item->status == TYPED_PATH_STATUS_DONE) {
-            memcpy(out + used + len, batch->end.at, batch->end.len);
-            used += len + batch->end.len;
+            if (batch->end.len)
+                memcpy(out + start + len, batch->end.at, batch->end.len);
+            used = start + len + batch->end.len;
         }
-        item->end = used;
+        item->start = start;
+        item->len = len;
     }
     PyEval_RestoreThread(lock);
     batch->used = used;
@@ -1524,23 +1538,37 @@ static bool is_run_noted(const Batch *batch)
     return is_noted;
 }
 
-/* Puts the targets of the run into the list: None for a name that was refused. */
-static bool is_run_listed(const Batch *batch, const char *out)
+/* The targets of the run: None for a name that was refused. */
+static PyObject *targets_of(const Batch *batch, const char *out)
 {
     Made made = {batch->as_paths ? batch->base : NULL, batch->are_bytes > 0};
-    size_t start = 0;
-    for (size_t at = 0; at < batch->count; ++at) {
+    PyObject *targets = PyList_New((Py_ssize_t)batch->count);
+    for (size_t at = 0; targets && at < batch->count; ++at) {
         const Item *item = &batch->items[at];
-        PyObject *target = Py_None;
-        if (item->status == TYPED_PATH_STATUS_DONE)
-            target = made_of(made, batch->base->dialect, out + start, item->end - start);
-        else
-            Py_INCREF(target);
-        if (!is_put_behind(batch->targets, target))
-            return false;
-        start = item->end;
+        PyObject *target = item->status == TYPED_PATH_STATUS_DONE
+                               ? made_of(made, batch->base->dialect, out + item->start, item->len)
+                               : again(Py_None);
+        if (!target || PyList_SetItem(targets, (Py_ssize_t)at, target) < 0)
+            Py_CLEAR(targets);
     }
-    return true;
+    return targets;
+}
+
+/* Puts the targets of the run behind those that are listed. */
+static bool is_run_listed(Batch *batch, const char *out)
+{
+    PyObject *targets = targets_of(batch, out);
+    if (!targets)
+        return false;
+    if (!batch->before) {
+        Py_DECREF(batch->targets);
+        batch->targets = targets;
+        return true;
+    }
+    Py_ssize_t end = PyList_Size(batch->targets);
+    bool is_listed = PyList_SetSlice(batch->targets, end, end, targets) == 0;
+    Py_DECREF(targets);
+    return is_listed;
 }
 
 /* Joins the run, and hands its targets on. */
