@@ -5,7 +5,7 @@ use Rattle.typed_path.specs.components.{parts_of}
 use Rattle.typed_path.specs.views.PathViews.{path_bytes}
 use Rattle.typed_path.specs.queries.{is_simple}
 use Rattle.typed_path.proofs.lemmas.queries.Simplified.{simple_long}
-use Rattle.typed_path.proofs.windows.normal.«Path+WindowsEncoding».simplified.Goals as goal
+use Rattle.typed_path.proofs.windows.simplified.«Path+WindowsEncoding».simplified.Goals as goal
 
 pub split_at-requires : goal.split_at-requires
 split_at-requires c =

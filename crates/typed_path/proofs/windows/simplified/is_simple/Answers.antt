@@ -5,7 +5,7 @@ use Rattle.typed_path.specs.views.PathViews.{components_items}
 use Rattle.typed_path.specs.views.PieceViews.{part_of}
 use Rattle.typed_path.specs.queries.{is_exact}
 use Rattle.typed_path.proofs.lemmas.queries.Simplified.{two_simple}
-use Rattle.typed_path.proofs.windows.normal.is_simple.Goals as goal
+use Rattle.typed_path.proofs.windows.simplified.is_simple.Goals as goal
 
 pub returns-then-are_drive_and_root : goal.returns-then-are_drive_and_root
 returns-then-are_drive_and_root c =

@@ -5,7 +5,7 @@ use Rattle.typed_path.specs.views.PathViews.{components_items}
 use Rattle.typed_path.specs.views.PieceViews.{part_of}
 use Rattle.typed_path.specs.queries.{is_exact}
 use Rattle.typed_path.proofs.lemmas.queries.Simplified.{none_exact, one_less, step_exact}
-use Rattle.typed_path.proofs.windows.normal.are_exact.Goals as goal
+use Rattle.typed_path.proofs.windows.simplified.are_exact.Goals as goal
 
 pub returns-then-not-is_exact : goal.returns-then-not-is_exact
 returns-then-not-is_exact c =
