@@ -22,7 +22,7 @@ pub use lanes::{
     has_no_nul_or_dot_pair,
 };
 pub use names::{
-    before_last_separator, begins_with_long_name, has_long_front, has_no_blank_behind,
+    Leading, before_last_separator, begins_with_long_name, has_long_front, has_no_blank_behind,
     has_only_names, leading_names, leading_short_names,
 };
 pub use prefix::{

@@ -1,6 +1,8 @@
 -- The texts of Windows that a push spells anew as they stand, and how such a text is written.
-use Rattle.std.specs.Prelude.{◌≡◌, ◌≤◌, ℕ, ◌+◌, drop, List, [], ◌∷◌, ◌++◌, map, length, sum_by, slice_index, if◌then◌else◌, Bool, true, false, not, ◌&&◌, ◌||◌, ◌==◌, Option, Some, None, MatchOption, ⊤}
+use Rattle.std.specs.Prelude.{◌≡◌, ◌≤◌, ℕ, ◌+◌, drop, List, [], ◌∷◌, ◌++◌, map, length, sum_by, slice_index, if◌then◌else◌, Bool, true, false, not, ◌&&◌, ◌||◌, ◌==◌, Option, Some, None, ⊤}
 use Rattle.std.specs.List.{list_any, list_all, slice_split, All, AllByRecursion}
+use Rattle.typed_path.specs.declared.scan.names.Leading.{Leading}
+use Rattle.typed_path.specs.declared.scan.names.Leading.TheVariants.{Whole, First}
 use Rattle.typed_path.specs.declared.scan.separators.Separators.{Separators}
 use Rattle.typed_path.specs.declared.scan.separators.Separators.TheVariants.{Slash, Backslash, Either}
 use Rattle.typed_path.specs.components.Dialects.{Dialect, unix, windows, dot, backslash, is_separator, is_verbatim}
@@ -64,9 +66,9 @@ pub record AreNamesBefore (pair : ℕ × ℕ) (text : List ℕ) (place : ℕ) : 
   pub parted : slice_split (is_one_of pair) text ≡ names ++ slice_split (is_one_of pair) (drop place text)
 
 -- what looks tell of the names at the front of a text: the place behind them, or that each piece is one
-abbrev pub TellsNames : ℕ × ℕ → List ℕ → Option ℕ → Type 0
-TellsNames pair text told =
-    MatchOption told (list_all is_name_piece (slice_split (is_one_of pair) text) ≡ true) (λ place. AreNamesBefore pair text place)
+abbrev pub TellsNames : ℕ × ℕ → List ℕ → Leading → Type 0
+TellsNames pair text Whole = list_all is_name_piece (slice_split (is_one_of pair) text) ≡ true
+TellsNames pair text (First place) = AreNamesBefore pair text place
 
 -- what stands between the separators of a path of Windows, as names
 abbrev pub names_of : List ℕ → List Part

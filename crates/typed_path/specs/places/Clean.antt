@@ -1,6 +1,7 @@
 -- The clean text of a path: where it leads from a directory that is not known, written behind its head.
-use Rattle.std.specs.Prelude.{◌≡◌, ℕ, ◌+◌, List, [], ◌∷◌, ◌++◌, map, replicate, Bool, true, false, not, ◌||◌, ◌&&◌, ◌==◌, length, if◌then◌else◌, is_some, Option}
+use Rattle.std.specs.Prelude.{◌≡◌, ℕ, ◌+◌, List, [], ◌∷◌, ◌++◌, map, replicate, Bool, true, false, not, ◌||◌, ◌&&◌, ◌==◌, length, if◌then◌else◌, is_some}
 use Rattle.std.specs.List.{join_with_byte, slice_split}
+use Rattle.typed_path.specs.declared.scan.names.Leading.{Leading}
 use Rattle.typed_path.specs.declared.scan.separators.Separators.{Separators}
 use Rattle.typed_path.specs.components.Dialects.{Dialect, unix, windows, slash, backslash, dot, is_separator}
 use Rattle.typed_path.specs.components.Parts.{Kind, prefix, root, current, parent, normal, Part, kinds}
@@ -68,7 +69,7 @@ abbrev pub segment_kinds : Separators → List ℕ → List Kind
 segment_kinds s text = map segment_kind (slice_split (is_separator s) text)
 
 -- what looks tell of the names at the front of a text, by the separators of that
-abbrev pub TellsNamesOf : Separators → List ℕ → Option ℕ → Type 0
+abbrev pub TellsNamesOf : Separators → List ℕ → Leading → Type 0
 TellsNamesOf s text told = (pair : ℕ × ℕ) × ((b : ℕ) → is_separator s b ≡ is_one_of pair b) × TellsNames pair text told
 
 -- parents and then names stand behind a head, each with a separator behind it and the names from a place on, while the rest of a whole list is still to come

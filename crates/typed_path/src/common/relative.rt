@@ -17,7 +17,9 @@ use crate::common::order::have_same_prefixes;
 use crate::common::path_buf::PathBuf;
 use crate::common::rows::{put_apart, put_row, put_turned_where, row_end};
 use crate::common::writing::drop_separator;
-use crate::scan::{Body, Cursor, Separators, cut_at_separator, leading_names, rests_behind_shared};
+use crate::scan::{
+    Body, Cursor, Leading, Separators, cut_at_separator, leading_names, rests_behind_shared,
+};
 use std::alloc::{AllocError, Global};
 
 /// Returns the path from `base` to `path`: `..` and then names. `Ok(None)` if their prefixes
@@ -134,9 +136,9 @@ fn ends_alone(text: &[u8], separators: Separators) -> Option<bool>
         (λ ended. (names : List (List ℕ)) × AreAlone separators text.now ended names) }
 {
     match leading_names(text, separators.pair()) {
-        None => Some(false),
-        Some(names) if names == text.len() => Some(true),
-        Some(_) => None,
+        Leading::Whole => Some(false),
+        Leading::First(names) if names == text.len() => Some(true),
+        Leading::First(_) => None,
     }
 }
 

@@ -16,7 +16,7 @@ use crate::common::writing::{
     append_first, behind_segment, cut_back, drop_name, drop_separator, has_room, put_turned,
 };
 use crate::scan::{
-    Body, Found, Separators, StepKind, WindowsPrefix, cut_at_separator, find_prefix,
+    Body, Found, Leading, Separators, StepKind, WindowsPrefix, cut_at_separator, find_prefix,
     leading_short_names, step_of,
 };
 use std::alloc::AllocError;
@@ -178,7 +178,7 @@ macro_rules! settle {
         let mut rest = behind_segment(b"", $path, $separators);
         'segments: loop {
             let names = leading_names(rest, $separators);
-            if matches!(names, Some(0)) || !has_room($text, rest) {
+            if matches!(names, Leading::First(0)) || !has_room($text, rest) {
                 return $each($text, floor, rest, $($own,)? $anchored);
             }
             let Some(left) = put_names($text, rest, names, $separators)? else {
@@ -265,10 +265,9 @@ pub fn put_kept_by_slashes(
     settle!(text, path, anchored, Separators::Slash, put_each_by_slashes)
 }
 
-/// Returns a number of bytes at the front of a text that are names, each with a separator after it;
-/// `None` if every segment of the text is a name. More names may follow them.
+/// Returns how much at the front of `text` is names, as [`leading_short_names`] tells.
 #[inline(always)]
-fn leading_names(text: &[u8], separators: Separators) -> Option<usize>
+fn leading_names(text: &[u8], separators: Separators) -> Leading
     ensures { TellsNamesOf separators text.now result }
 {
     leading_short_names(text, separators.pair())
@@ -338,7 +337,7 @@ pub fn put_each_segment(text: &mut Vec<u8>, path: &[u8], anchored: bool) -> Resu
 pub fn put_names<'a>(
     text: &mut Vec<u8>,
     path: &'a [u8],
-    names: Option<usize>,
+    names: Leading,
     separators: Separators,
 ) -> Result<Option<&'a [u8]>, AllocError>
     requires { TellsNamesOf separators path.now names }
@@ -355,7 +354,7 @@ pub fn put_names<'a>(
     ensures capacity { vec_capacity text.old ≤ vec_capacity text.new }
     ensures succeeds { vec_len text.old + length path.now < vec_capacity text.old → IsOk result }
 {
-    let Some(names) = names else {
+    let Leading::First(names) = names else {
         put_turned_where(text, path, separators)?;
         text.push(row_end(separators))?;
         return Ok(None);

@@ -12,6 +12,15 @@ ghost use Rattle.typed_path.specs.components.{body, later_body, parts};
 use crate::scan::lanes::{first_marked, is_one_of, lowest, marks_at, marks_of};
 use crate::scan::separators::Separators;
 
+/// What a look at the front of a text tells of its segments.
+#[derive(Clone, Copy, Debug)]
+pub enum Leading {
+    /// Each of them is a name.
+    Whole,
+    /// So many bytes are names, each with a separator after it. More names may follow.
+    First(usize),
+}
+
 /// Whether each segment of `text` is a name: not empty, `.` or `..`. `pair` holds the separators.
 /// `false` leaves it open: a segment that begins with `..` is not taken for a name.
 #[inline(always)]
@@ -19,53 +28,52 @@ pub fn has_only_names(text: &[u8], pair: (u8, u8)) -> bool
     ensures { IsTrue result
         → list_all is_name_piece (slice_split (is_one_of pair) text.now) ≡ true }
 {
-    leading_names(text, pair).is_none()
+    matches!(leading_names(text, pair), Leading::Whole)
 }
 
-/// Returns how many bytes at the front are names, each with a separator after it; `None` if every
-/// segment of `text` is a name. `pair` holds the separators. A segment that begins with `..` is not
-/// taken for a name, even if it is one, as `..a` is.
+/// Returns how much at the front of `text` is names. `pair` holds the separators. A segment that
+/// begins with `..` is not taken for a name, even if it is one, as `..a` is.
 #[inline(always)]
-pub fn leading_names(text: &[u8], pair: (u8, u8)) -> Option<usize>
+pub fn leading_names(text: &[u8], pair: (u8, u8)) -> Leading
     ensures { TellsNames pair text.now result }
 {
     if let [only] = text {
         return if begins_no_name(pair, *only, *only) {
-            Some(0)
+            Leading::First(0)
         } else {
-            None
+            Leading::Whole
         };
     }
     let [first, second, ..] = text else {
-        return Some(0);
+        return Leading::First(0);
     };
     if begins_no_name(pair, *first, *second) {
-        return Some(0);
+        return Leading::First(0);
     }
     names_behind(text, 0, pair)
 }
 
-/// Like [`leading_names`], but for 34 bytes or more returns `Some(0)` unless the first 32 show
+/// Like [`leading_names`], but for 34 bytes or more returns `First(0)` unless the first 32 show
 /// three separators with a name after each.
 #[inline(always)]
-pub fn leading_short_names(text: &[u8], pair: (u8, u8)) -> Option<usize>
+pub fn leading_short_names(text: &[u8], pair: (u8, u8)) -> Leading
     ensures { TellsNames pair text.now result }
 {
     if text.len() < 34 {
         return leading_names(text, pair);
     }
     let [first, second, ..] = text else {
-        return Some(0);
+        return Leading::First(0);
     };
     if begins_no_name(pair, *first, *second) {
-        return Some(0);
+        return Leading::First(0);
     }
     // Few or long names cost less one by one than a search for those that follow.
     let ends = marks_at::<32>(text, 0, pair);
     let seconds = ends & ends.wrapping_sub(1);
     let thirds = seconds & seconds.wrapping_sub(1);
     if thirds == 0 {
-        return Some(0);
+        return Leading::First(0);
     }
     let others = no_names_among(text, 0, ends, pair);
     if others == 0 {
@@ -73,15 +81,15 @@ pub fn leading_short_names(text: &[u8], pair: (u8, u8)) -> Option<usize>
     }
     let run = lowest(others);
     if run <= lowest(thirds) {
-        return Some(0);
+        return Leading::First(0);
     }
-    Some(run + 1)
+    Leading::First(run + 1)
 }
 
 /// Like [`leading_names`], for two bytes or more that begin with a name. No separator in
 /// `text[..from]` comes before a segment that may be no name.
 #[inline(always)]
-fn names_behind(text: &[u8], from: usize, pair: (u8, u8)) -> Option<usize>
+fn names_behind(text: &[u8], from: usize, pair: (u8, u8)) -> Leading
     requires size { from + 2 ≤ length text.now }
     requires first { begins_no_name pair (slice_index text.now 0) (slice_index text.now 1) ≡ false }
     requires passed { HoldsNowhere (begins_no_name_at pair text.now) 0 from }
@@ -90,16 +98,16 @@ fn names_behind(text: &[u8], from: usize, pair: (u8, u8)) -> Option<usize>
     let to = text.len() - 2;
     let found = first_no_name(text, from, to, pair);
     if found < to {
-        return Some(found + 1);
+        return Leading::First(found + 1);
     }
     let last = text[to + 1];
     if is_one_of(pair, text[to]) && begins_no_name(pair, last, last) {
-        return Some(to + 1);
+        return Leading::First(to + 1);
     }
     if is_one_of(pair, last) {
-        return Some(to + 2);
+        return Leading::First(to + 2);
     }
-    None
+    Leading::Whole
 }
 
 /// Returns the index in `text[..to]` of the first separator before a segment that may be no name:

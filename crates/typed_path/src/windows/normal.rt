@@ -14,8 +14,8 @@ use crate::common::{
     append_first, behind_segment, cut_back, drop_name, drop_separator, has_room, put_names,
 };
 use crate::scan::{
-    Cursor, Found, PieceKind, Separators, StepKind, WindowsPrefix, cut_at_separator, drive,
-    find_prefix, has_long_front, is_free_of, leading_short_names, step_of,
+    Cursor, Found, Leading, PieceKind, Separators, StepKind, WindowsPrefix, cut_at_separator,
+    drive, find_prefix, has_long_front, is_free_of, leading_short_names, step_of,
 };
 use crate::windows::push::{is_separated, push_at, push_next};
 use std::alloc::AllocError;
@@ -175,7 +175,7 @@ fn put_segments(text: &mut Vec<u8>, len: usize, path: &[u8]) -> Result<bool, All
         && has_room(text, path)
     {
         let names = leading_short_names(path, (b'/', b'\\'));
-        if !matches!(names, Some(0)) && is_free_of((b':', b':'), path) {
+        if !matches!(names, Leading::First(0)) && is_free_of((b':', b':'), path) {
             return put_undriven(text, len, path, names);
         }
     }
@@ -189,7 +189,7 @@ fn put_undriven(
     text: &mut Vec<u8>,
     len: usize,
     path: &[u8],
-    names: Option<usize>,
+    names: Leading,
 ) -> Result<bool, AllocError>
     requires within { len ≤ length text.old.items }
     requires free { list_any (is_one_of (colon, colon)) path.now ≡ false }
@@ -212,7 +212,7 @@ fn put_undriven(
         put_segment(text, len, segment, left)?;
         rest = behind_segment(segment, behind, Separators::Either);
         names = leading_short_names(rest, (b'/', b'\\'));
-        if matches!(names, Some(0)) {
+        if matches!(names, Leading::First(0)) {
             return put_one_by_one(text, len, rest);
         }
     }

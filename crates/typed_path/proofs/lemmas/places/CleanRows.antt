@@ -1,8 +1,9 @@
 -- The parents and names that are kept of a path, put behind a head segment by segment.
-use Rattle.std.proofs.Common.{◌≡◌, ℕ, ◌+◌, ◌-◌, ◌<◌, ◌≤◌, ◌==◌, ◌||◌, Bool, true, false, cond, List, [], ◌∷◌, ◌++◌, map, replicate, fold, length, take, refl, sym, ap, ap₂, ◌∙◌, append_assoc, append-nil, arith, subst, length-append, length-take, drop, Some, None}
+use Rattle.std.proofs.Common.{◌≡◌, ℕ, ◌+◌, ◌-◌, ◌<◌, ◌≤◌, ◌==◌, ◌||◌, Bool, true, false, cond, List, [], ◌∷◌, ◌++◌, map, replicate, fold, length, take, refl, sym, ap, ap₂, ◌∙◌, append_assoc, append-nil, arith, subst, length-append, length-take, drop}
 use Rattle.std.specs.List.{AllByRecursion, list_all, slice_split}
 use Rattle.std.proofs.lemmas.Bool.{and_parts, or_parts, not-true, both_ways}
 use Rattle.std.proofs.lemmas.List.{map-append, replicate_more, length-replicate}
+use Rattle.typed_path.specs.declared.scan.names.Leading.TheVariants.{Whole, First}
 use Rattle.typed_path.specs.declared.scan.separators.Separators.{Separators}
 use Rattle.typed_path.specs.components.{dot, is_separator, root_text, Kind, current, parent, normal, Part, root_part, current_part, parent_part, name_part, parts, kinds, is_dot, is_dot_dot, component, first, body}
 use Rattle.typed_path.specs.changes.{is_name_piece}
@@ -270,7 +271,7 @@ module _ (s : Separators) (anchored : Bool) (head : List ℕ) where
 
 -- what looks tell of the names at the front of a text
 module _ (s : Separators) (path : List ℕ) where
-  pub told-whole : TellsNamesOf s path None → list_all is_name_piece (pieces s path) ≡ true
+  pub told-whole : TellsNamesOf s path Whole → list_all is_name_piece (pieces s path) ≡ true
   told-whole told = subst (λ p. list_all is_name_piece (slice_split p path) ≡ true) (λ i b. sym (told.1 b) i) told.2
 
   pub record Told (place : ℕ) : Type 0 where
@@ -278,5 +279,5 @@ module _ (s : Separators) (path : List ℕ) where
     pub named : list_all is_name_piece names ≡ true
     pub parted : pieces s path ≡ names ++ pieces s (drop place path)
 
-  pub told-before : (place : ℕ) → TellsNamesOf s path (Some place) → Told place
+  pub told-before : (place : ℕ) → TellsNamesOf s path (First place) → Told place
   told-before place told = grind arith

@@ -4,8 +4,8 @@ use Rattle.typed_path.proofs.lemmas.components.Segments.{pieces}
 use Rattle.typed_path.proofs.lemmas.places.CleanRows.{told-before, told-whole}
 use Rattle.typed_path.proofs.common.relative.ends_alone.Goals as goal
 
-pub returns-in-None : goal.returns-in-None
-returns-in-None c = grind (arith, pieces, told-whole, append-nil)
+pub returns-in-Whole : goal.returns-in-Whole
+returns-in-Whole c = grind (arith, pieces, told-whole, append-nil)
 
-pub returns-in-Some : goal.returns-in-Some
-returns-in-Some c = grind (arith, told-before, pieces, drop_all)
+pub returns-in-First : goal.returns-in-First
+returns-in-First c = grind (arith, told-before, pieces, drop_all)

@@ -22,6 +22,6 @@ returns-clause-ok c =
     let s = c.args.separators in
     let old = c.args.text.now.items in
     let path = c.args.path.now in
-    let told = told-before s path c.in-Some.names (rw c.in-Some.is at c.requires) in
-    subst (λ rest. ArePut s old c.put_turned_where-2.new.text.items (pieces s path) (pieces s rest)) (sym (take_rest path c.in-Some.names))
-    (put-before s old _ path c.in-Some.names told.names told.named told.parted c.in_ok-put_turned_where-2.ensures.ok)
+    let told = told-before s path c.in-First.names (rw c.in-First.is at c.requires) in
+    subst (λ rest. ArePut s old c.put_turned_where-2.new.text.items (pieces s path) (pieces s rest)) (sym (take_rest path c.in-First.names))
+    (put-before s old _ path c.in-First.names told.names told.named told.parted c.in_ok-put_turned_where-2.ensures.ok)
