@@ -5,6 +5,7 @@
 ghost use Rattle.std.specs.Prelude.{◌≡◌, ◌<◌, ◌≤◌, ◌+◌, ◌++◌, ◌∷◌, List, ℕ, [], take, length, IfOk, IsOk, OnOk, OnErr, MatchOption, ◌||◌, false, drop, is_some, if◌then◌else◌, Some};
 ghost use Rattle.std.specs.List.{slice_split};
 ghost use Rattle.std.specs.Vec.{vec_len, vec_capacity};
+ghost use Rattle.typed_path.specs.changes.{Puts, PutsPart};
 ghost use Rattle.typed_path.specs.components.{Kind, is_separator, windows, dialect_of, prefix_of, body, parts, kinds};
 ghost use Rattle.typed_path.specs.places.{AreKept, ArePut, TellsNamesOf, kept_segments, row_end, rows_of, segment_kind, segment_kinds, behind_head, clean_text, cleaned, unheaded};
 ghost use Rattle.typed_path.specs.scan.{turned};
@@ -23,11 +24,7 @@ use std::alloc::AllocError;
 
 /// Appends the clean path of `path` to `text`. If allocation fails, `text` keeps its bytes.
 pub(crate) fn put_clean<T: Encoding>(text: &mut Vec<u8>, path: &[u8]) -> Result<(), AllocError>
-    ensures ok { OnOk result (text.new.items ≡ text.old.items ++ clean_text T.dialect path.now) }
-    ensures err { OnErr result (text.new.items ≡ text.old.items) }
-    ensures capacity { vec_capacity text.old ≤ vec_capacity text.new }
-    ensures succeeds { vec_len text.old + length path.now + 2 ≤ vec_capacity text.old
-        → IsOk result }
+    ensures { Puts result text.old text.new (clean_text T.dialect path.now) (length path.now + 2) }
 {
     let len = text.len();
     let done = put_whole::<T>(text, path);
@@ -37,11 +34,9 @@ pub(crate) fn put_clean<T: Encoding>(text: &mut Vec<u8>, path: &[u8]) -> Result<
 /// Does what [`put_clean`] does, but a part of the clean path may be left if allocation fails.
 #[inline(always)]
 fn put_whole<T: Encoding>(text: &mut Vec<u8>, path: &[u8]) -> Result<(), AllocError>
-    ensures ok { OnOk result (text.new.items ≡ text.old.items ++ clean_text T.dialect path.now) }
-    ensures kept { take (length text.old.items) text.new.items ≡ text.old.items }
-    ensures capacity { vec_capacity text.old ≤ vec_capacity text.new }
-    ensures succeeds { vec_len text.old + length path.now + 2 ≤ vec_capacity text.old
-        → IsOk result }
+    ensures { PutsPart result text.old text.new
+        (clean_text T.dialect path.now)
+        (length path.now + 2) }
 {
     if !T::is_windows() {
         return put_bare(text, path, Separators::Slash);
@@ -55,12 +50,9 @@ fn put_whole<T: Encoding>(text: &mut Vec<u8>, path: &[u8]) -> Result<(), AllocEr
 /// Appends the clean path of a path without a prefix.
 #[inline(always)]
 fn put_bare(text: &mut Vec<u8>, path: &[u8], separators: Separators) -> Result<(), AllocError>
-    ensures ok { OnOk result (text.new.items ≡ text.old.items
-        ++ cleaned (dialect_of separators) (parts (body separators 0 path.now))) }
-    ensures kept { take (length text.old.items) text.new.items ≡ text.old.items }
-    ensures capacity { vec_capacity text.old ≤ vec_capacity text.new }
-    ensures succeeds { vec_len text.old + length path.now + 2 ≤ vec_capacity text.old
-        → IsOk result }
+    ensures { PutsPart result text.old text.new
+        (cleaned (dialect_of separators) (parts (body separators 0 path.now)))
+        (length path.now + 2) }
 {
     let start = text.len();
     if put_headed(text, path, 0, false, separators)? {
@@ -74,12 +66,9 @@ fn put_bare(text: &mut Vec<u8>, path: &[u8], separators: Separators) -> Result<(
 #[inline(always)]
 fn put_prefixed(text: &mut Vec<u8>, path: &[u8], found: Found<'_>) -> Result<(), AllocError>
     requires { Some (found_of found) ≡ prefix_of windows path.now }
-    ensures ok { OnOk result
-        (text.new.items ≡ text.old.items ++ clean_text windows path.now) }
-    ensures kept { take (length text.old.items) text.new.items ≡ text.old.items }
-    ensures capacity { vec_capacity text.old ≤ vec_capacity text.new }
-    ensures succeeds { vec_len text.old + length path.now + 2 ≤ vec_capacity text.old
-        → IsOk result }
+    ensures { PutsPart result text.old text.new
+        (clean_text windows path.now)
+        (length path.now + 2) }
 {
     let implied = !matches!(found.kind, WindowsPrefix::Disk(_));
     put_headed(
@@ -219,12 +208,10 @@ pub fn put_kept(
     separators: Separators,
     anchored: bool,
 ) -> Result<(), AllocError>
-    ensures ok { OnOk result (text.new.items ≡ text.old.items
-        ++ rows_of separators (kept_segments anchored (segment_kinds separators path.now))) }
-    ensures kept { take (length text.old.items) text.new.items ≡ text.old.items }
+    ensures puts { PutsPart result text.old text.new
+        (rows_of separators (kept_segments anchored (segment_kinds separators path.now)))
+        (length path.now + 1) }
     ensures room { OnOk result (vec_len text.new ≤ vec_len text.old + length path.now + 1) }
-    ensures capacity { vec_capacity text.old ≤ vec_capacity text.new }
-    ensures succeeds { vec_len text.old + length path.now < vec_capacity text.old → IsOk result }
 {
     match separators {
         Separators::Slash => put_kept_by_slashes(text, path, anchored),
@@ -239,12 +226,10 @@ fn put_kept_by(
     separators: Separators,
     anchored: bool,
 ) -> Result<(), AllocError>
-    ensures ok { OnOk result (text.new.items ≡ text.old.items
-        ++ rows_of separators (kept_segments anchored (segment_kinds separators path.now))) }
-    ensures kept { take (length text.old.items) text.new.items ≡ text.old.items }
+    ensures puts { PutsPart result text.old text.new
+        (rows_of separators (kept_segments anchored (segment_kinds separators path.now)))
+        (length path.now + 1) }
     ensures room { OnOk result (vec_len text.new ≤ vec_len text.old + length path.now + 1) }
-    ensures capacity { vec_capacity text.old ≤ vec_capacity text.new }
-    ensures succeeds { vec_len text.old + length path.now < vec_capacity text.old → IsOk result }
 {
     settle!(text, path, anchored, separators, put_one_by_one, separators)
 }
@@ -255,12 +240,10 @@ pub fn put_kept_by_slashes(
     path: &[u8],
     anchored: bool,
 ) -> Result<(), AllocError>
-    ensures ok { OnOk result (text.new.items ≡ text.old.items ++ rows_of Separators.Slash
-        (kept_segments anchored (segment_kinds Separators.Slash path.now))) }
-    ensures kept { take (length text.old.items) text.new.items ≡ text.old.items }
+    ensures puts { PutsPart result text.old text.new
+        (rows_of Separators.Slash (kept_segments anchored (segment_kinds Separators.Slash path.now)))
+        (length path.now + 1) }
     ensures room { OnOk result (vec_len text.new ≤ vec_len text.old + length path.now + 1) }
-    ensures capacity { vec_capacity text.old ≤ vec_capacity text.new }
-    ensures succeeds { vec_len text.old + length path.now < vec_capacity text.old → IsOk result }
 {
     settle!(text, path, anchored, Separators::Slash, put_each_by_slashes)
 }
@@ -319,12 +302,9 @@ fn put_each_by_slashes(
 /// Does what [`put_kept_by_slashes`] does, segment by segment from the first.
 #[inline(always)]
 pub fn put_each_segment(text: &mut Vec<u8>, path: &[u8], anchored: bool) -> Result<(), AllocError>
-    ensures ok { OnOk result (text.new.items ≡ text.old.items ++ rows_of Separators.Slash
-        (kept_segments anchored (segment_kinds Separators.Slash path.now))) }
-    ensures kept { take (length text.old.items) text.new.items ≡ text.old.items }
-    ensures room { OnOk result (vec_len text.new ≤ vec_len text.old + length path.now + 1) }
-    ensures capacity { vec_capacity text.old ≤ vec_capacity text.new }
-    ensures succeeds { vec_len text.old + length path.now < vec_capacity text.old → IsOk result }
+    ensures { PutsPart result text.old text.new
+        (rows_of Separators.Slash (kept_segments anchored (segment_kinds Separators.Slash path.now)))
+        (length path.now + 1) }
 {
     let len = text.len();
     put_each_by_slashes(text, len, path, anchored)
@@ -371,11 +351,9 @@ pub(crate) fn put_turned_where(
     source: &[u8],
     separators: Separators,
 ) -> Result<(), AllocError>
-    ensures ok { OnOk result (text.new.items
-        ≡ text.old.items ++ turned separators (row_end separators) source.now) }
-    ensures err { OnErr result (text.new.items ≡ text.old.items) }
-    ensures capacity { vec_capacity text.old ≤ vec_capacity text.new }
-    ensures succeeds { vec_len text.old + length source.now ≤ vec_capacity text.old → IsOk result }
+    ensures { Puts result text.old text.new
+        (turned separators (row_end separators) source.now)
+        (length source.now) }
 {
     match separators {
         Separators::Either => put_turned(text, source, Separators::Either, b'\\'),

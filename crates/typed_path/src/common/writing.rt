@@ -4,7 +4,7 @@ ghost use Rattle.std.specs.Prelude.{◌≡◌, ◌<◌, ◌≤◌, ◌+◌, ◌-
 ghost use Rattle.std.specs.List.{before_first, slice_split};
 ghost use Rattle.typed_path.specs.components.{is_separator};
 ghost use Rattle.std.specs.Vec.{vec_len, vec_capacity};
-ghost use Rattle.typed_path.specs.changes.{dotted};
+ghost use Rattle.typed_path.specs.changes.{Puts, dotted};
 ghost use Rattle.typed_path.specs.places.{rows_of, settled, AreRowsOf, HaveNoDisks};
 ghost use Rattle.typed_path.specs.queries.{stem_of, extension_of, first_stem_of, is_a_dot};
 ghost use Rattle.typed_path.specs.scan.{turned};
@@ -129,10 +129,7 @@ const BLOCK: usize = 16;
 #[inline(always)]
 pub fn append_first(text: &mut Vec<u8>, source: &[u8], len: usize) -> Result<(), AllocError>
     requires { len ≤ length source.now }
-    ensures ok { OnOk result (text.new.items ≡ text.old.items ++ take len source.now) }
-    ensures err { OnErr result (text.new.items ≡ text.old.items) }
-    ensures capacity { vec_capacity text.old ≤ vec_capacity text.new }
-    ensures succeeds { vec_len text.old + length source.now ≤ vec_capacity text.old → IsOk result }
+    ensures { Puts result text.old text.new (take len source.now) (length source.now) }
 {
     // A few bytes are copied as a whole block, and what is too much is cut off: a block is one
     // store, where a copy of any length is a call that branches by the length.
@@ -154,11 +151,9 @@ pub fn put_turned(
     separators: Separators,
     byte: u8,
 ) -> Result<(), AllocError>
-    ensures ok { OnOk result
-        (text.new.items ≡ text.old.items ++ turned separators byte source.now) }
-    ensures err { OnErr result (text.new.items ≡ text.old.items) }
-    ensures capacity { vec_capacity text.old ≤ vec_capacity text.new }
-    ensures succeeds { vec_len text.old + length source.now ≤ vec_capacity text.old → IsOk result }
+    ensures { Puts result text.old text.new
+        (turned separators byte source.now)
+        (length source.now) }
 {
     let len = text.len();
     text.extend_from_slice(source)?;

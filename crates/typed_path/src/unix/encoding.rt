@@ -3,7 +3,7 @@
 ghost use Rattle.std.specs.Prelude.{false, ◌≡◌, ◌≤◌, ◌+◌, ◌++◌, ℕ, take, slice_range, length, IfSome, IsNone, IsOk, OnOk, OnErr, ◌<◌, ◌-◌, [], codes, Some, true};
 ghost use Rattle.std.specs.Vec.{vec_capacity, vec_len};
 ghost use Rattle.typed_path.specs.components.{unix, slash};
-ghost use Rattle.typed_path.specs.changes.{push_unix, ended_with, FitsPush, put_in_place, IsNoneOrSeparator};
+ghost use Rattle.typed_path.specs.changes.{push_unix, ended_with, FitsPush, PutsPart, put_in_place, IsNoneOrSeparator};
 ghost use Rattle.typed_path.specs.places.{normal_text, IsParted, kept_segments, names_left, rows_of, segment_kinds};
 
 use crate::common::{
@@ -232,10 +232,7 @@ pub fn put_normal(text: &mut Vec<u8>, path: &[u8]) -> Result<(), AllocError>
 /// allocation fails, a part of it may stay.
 #[inline(always)]
 fn put_rows(text: &mut Vec<u8>, path: &[u8]) -> Result<(), AllocError>
-    ensures ok { OnOk result (text.new.items ≡ text.old.items ++ normal_text unix path.now) }
-    ensures kept { take (length text.old.items) text.new.items ≡ text.old.items }
-    ensures capacity { vec_capacity text.old ≤ vec_capacity text.new }
-    ensures succeeds { vec_len text.old + length path.now < vec_capacity text.old → IsOk result }
+    ensures { PutsPart result text.old text.new (normal_text unix path.now) (length path.now + 1) }
 {
     // One pass: names are appended with a `/`, `..` takes the last one off, and the last `/` goes.
     let (root, rest) = split_root(path);
@@ -278,12 +275,9 @@ fn behind_parents(text: &[u8]) -> &[u8]
 /// allocation fails, a part of them may stay.
 #[inline(always)]
 fn put_left(text: &mut Vec<u8>, path: &[u8]) -> Result<(), AllocError>
-    ensures ok { OnOk result (text.new.items ≡ text.old.items
-        ++ rows_of Separators.Slash (kept_segments true (segment_kinds Separators.Slash path.now))) }
-    ensures kept { take (length text.old.items) text.new.items ≡ text.old.items }
-    ensures room { OnOk result (vec_len text.new ≤ vec_len text.old + length path.now + 1) }
-    ensures capacity { vec_capacity text.old ≤ vec_capacity text.new }
-    ensures succeeds { vec_len text.old + length path.now < vec_capacity text.old → IsOk result }
+    ensures { PutsPart result text.old text.new
+        (rows_of Separators.Slash (kept_segments true (segment_kinds Separators.Slash path.now)))
+        (length path.now + 1) }
 {
     if path.is_empty() {
         return Ok(());

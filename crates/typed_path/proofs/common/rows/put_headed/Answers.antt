@@ -48,7 +48,7 @@ returns-in_err-put_kept-clause-kept c =
       | then-anchored+in_ok-push w ↦ ap (λ v. v.items) w.text-is ∙ rooted-front s anchored (old ++ raw) _ _ w.row_end.result begun w.in_ok-push.ensures.items w.row_end.ensures w.if-anchored.true
       | else-anchored w ↦ ap (λ v. v.items) w.text-is ∙ bare-front s anchored (old ++ raw) _ _ begun refl w.if-anchored.false
     ] in
-    kept-through old raw _ _ _ headed c.in_err-put_kept.ensures.kept
+    kept-through old raw _ _ _ headed c.in_err-put_kept.ensures.puts.kept
 
 pub returns-clause-ok : goal.returns-clause-ok
 returns-clause-ok c =
@@ -65,7 +65,7 @@ returns-clause-ok c =
       | else-anchored w ↦ ap (λ v. v.items) w.text-is ∙ bare-front s anchored (old ++ raw) _ _ begun refl w.if-anchored.false
     ] in
     closed-text s old raw _ _ rooted c.args.implied (c.len.result + c.from.result) segments
-    (c.in_ok-put_kept.ensures.ok ∙ ap₂ (λ t r. t ++ rows_of s (kept_segments anchored (segment_kinds s r))) headed (rest-range c.args.path.now c.args.end))
+    (c.in_ok-put_kept.ensures.puts.ok ∙ ap₂ (λ t r. t ++ rows_of s (kept_segments anchored (segment_kinds s r))) headed (rest-range c.args.path.now c.args.end))
     (omega (arith, c.len.ensures, ap length begun, root-length rooted c.from.result (row_end s) c.from.ensures))
     c.drop_separator.ensures.named c.drop_separator.ensures.alone
     ∙ ap (λ ss. old ++ behind_head (row_end s) raw rooted c.args.implied ss) (kept-body s anchored rest)

@@ -1,4 +1,4 @@
-use Rattle.std.proofs.Common.{◌≡◌, ◌∙◌, length, refl, arith}
+use Rattle.std.proofs.Common.{rules, ◌≡◌, ◌∙◌, length, refl, arith}
 use Rattle.std.proofs.lemmas.List.{take_all}
 use Rattle.std.proofs.lemmas.Result.{on_ok_weaker}
 use Rattle.typed_path.specs.places.{segment_kinds}
@@ -47,22 +47,39 @@ segments-preserved c =
       capacity = omega (arith, was.capacity, c.put_names.ensures.capacity, did.capacity);
     }
 
-pub returns-then-matches-clause-ok : goal.returns-then-matches-clause-ok
-returns-then-matches-clause-ok c = on_ok_weaker c.put_one_by_one.result (λ puts. puts c.args.text.now.items (segment_kinds c.args.separators c.args.path.now) c.segments.invariant.are) c.put_one_by_one.ensures.ok
+pub returns-then-matches-clause-puts : goal.returns-then-matches-clause-puts
+returns-then-matches-clause-puts c = record {
+  ok = on_ok_weaker c.put_one_by_one.result (λ puts. puts c.args.text.now.items (segment_kinds c.args.separators c.args.path.now) c.segments.invariant.are) c.put_one_by_one.ensures.ok;
+  kept = kept-shorter (length c.args.text.now.items) c.segments.floor _ _ c.segments.invariant.above c.put_one_by_one.ensures.kept ∙ c.segments.invariant.kept;
+  capacity = search rules;
+  succeeds = search rules;
+}
 
-pub returns-in_default-2-clause-ok : goal.returns-in_default-2-clause-ok
-returns-in_default-2-clause-ok c =
+pub returns-in_default-2-clause-puts : goal.returns-in_default-2-clause-puts
+returns-in_default-2-clause-puts c =
     let s = c.args.separators in
     let text = c.args.text.now.items in
-    kept-end s c.args.anchored text _ c.segments.floor (segment_kinds s c.args.path.now)
-    (kept-names_put s c.args.anchored text c.segments.text.items _ c.segments.floor (segment_kinds s c.args.path.now) c.segments.rest.now _ (rw c.in_default-2.is at c.in_ok-left.ensures.ok) c.segments.invariant.are)
+    record {
+      ok =
+          kept-end s c.args.anchored text _ c.segments.floor (segment_kinds s c.args.path.now)
+          (kept-names_put s c.args.anchored text c.segments.text.items _ c.segments.floor (segment_kinds s c.args.path.now) c.segments.rest.now _ (rw c.in_default-2.is at c.in_ok-left.ensures.ok) c.segments.invariant.are);
+      kept = kept-front (length text) c.segments.text.items _ (omega (arith, c.segments.invariant.above, c.segments.invariant.within)) c.put_names.ensures.front ∙ c.segments.invariant.kept;
+      capacity = search rules;
+      succeeds = λ _. refl;
+    }
 
-pub returns-in_default-cut_at_separator-clause-ok : goal.returns-in_default-cut_at_separator-clause-ok
-returns-in_default-cut_at_separator-clause-ok c =
+pub returns-in_default-cut_at_separator-clause-puts : goal.returns-in_default-cut_at_separator-clause-puts
+returns-in_default-cut_at_separator-clause-puts c =
     let s = c.args.separators in
     let text = c.args.text.now.items in
     let whole = segment_kinds s c.args.path.now in
     let put = rw c.in-Some.is at c.in_ok-left.ensures.ok in
     let there = kept-names_put s c.args.anchored text c.segments.text.items _ c.segments.floor whole c.segments.rest.now (pieces s c.in-Some.left.now) put c.segments.invariant.are in
-    kept-last s c.args.anchored text _ _ c.segments.floor _ whole c.in-Some.left.now c.in_default-cut_at_separator.ensures.pieces
-    (λ left. c.in_ok-put_segment.ensures.ok text left whole c.in_default-cut_at_separator.ensures.pieces) there
+    record {
+      ok =
+          kept-last s c.args.anchored text _ _ c.segments.floor _ whole c.in-Some.left.now c.in_default-cut_at_separator.ensures.pieces
+          (λ left. c.in_ok-put_segment.ensures.ok text left whole c.in_default-cut_at_separator.ensures.pieces) there;
+      kept = kept-shorter (length text) c.segments.floor _ _ c.segments.invariant.above c.in_ok-put_segment.ensures.kept ∙ kept-front (length text) c.segments.text.items _ (omega (arith, c.segments.invariant.above, c.segments.invariant.within)) c.put_names.ensures.front ∙ c.segments.invariant.kept;
+      capacity = search rules;
+      succeeds = λ _. refl;
+    }

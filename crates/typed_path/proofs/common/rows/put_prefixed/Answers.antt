@@ -21,13 +21,19 @@ no_drive (DeviceNS name) none = refl
 no_drive (UNC server share) none = refl
 no_drive (Disk letter) none = absurd (none letter refl)
 
-pub returns-clause-ok : goal.returns-clause-ok
-returns-clause-ok c =
+pub returns : goal.returns
+returns c =
     let h = c.in_ok-put_headed.ensures in
     let told : c.match-matches.matches ≡ is_disk (found_of c.args.found).prefix = elim c.match-matches.branch [
       | in-Disk w ↦ w.matches-is ∙ ap (λ k. is_disk (prefix_view k)) (sym w.in-Disk.is)
       | in_default w ↦ w.matches-is ∙ sym (no_drive c.args.found.kind w.in_default.not-Disk)
     ] in
-    h.ok
-    ∙ ap (λ t. c.args.text.now.items ++ t)
-    (prefixed-text c.args.path.now (found_of c.args.found) _ _ c.match-matches.matches (sym c.requires) c.of_windows.ensures h.rooted told)
+    record {
+      ok =
+          h.ok
+          ∙ ap (λ t. c.args.text.now.items ++ t)
+          (prefixed-text c.args.path.now (found_of c.args.found) _ _ c.match-matches.matches (sym c.requires) c.of_windows.ensures h.rooted told);
+      kept = h.kept;
+      capacity = h.capacity;
+      succeeds = λ _. refl;
+    }

@@ -1,5 +1,5 @@
-use Rattle.std.proofs.Common.{◌≡◌, ◌∙◌, ◌++◌, true, sym, ap, refl}
-use Rattle.std.proofs.lemmas.Result.{on_ok_weaker}
+use Rattle.std.proofs.Common.{◌≡◌, ◌∙◌, ◌+◌, true, length, sym, ap, refl, subst}
+use Rattle.typed_path.specs.changes.{PutsPart}
 use Rattle.typed_path.specs.components.{Dialect, unix, windows}
 use Rattle.typed_path.specs.conversions.{same_dialect}
 use Rattle.typed_path.specs.places.{clean_text}
@@ -11,10 +11,9 @@ is_windows-told : (d : Dialect) → same_dialect d windows ≡ true → d ≡ wi
 is_windows-told windows e = refl
 is_windows-told unix e = cc
 
-pub returns-in-None-clause-ok : goal.returns-in-None-clause-ok
-returns-in-None-clause-ok g c =
+pub returns-in-None : goal.returns-in-None
+returns-in-None g c =
     let path = c.args.path.now in
     let w = is_windows-told g.T.Encoding.dialect (sym c.is_windows.ensures ∙ c.if-not-is_windows.false) in
-    on_ok_weaker c.put_bare-in-None.result
-    (λ put. put ∙ ap (λ t. c.args.text.now.items ++ t) (clean_text-none path (sym c.in-None.ensures) ∙ ap (λ e. clean_text e path) (sym w)))
-    c.put_bare-in-None.ensures.ok
+    subst (λ bytes. PutsPart c.put_bare-in-None.result c.args.text.now c.put_bare-in-None.new.text bytes (length path + 2))
+    (clean_text-none path (sym c.in-None.ensures) ∙ ap (λ e. clean_text e path) (sym w)) c.put_bare-in-None.ensures

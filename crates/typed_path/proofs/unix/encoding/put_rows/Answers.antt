@@ -1,4 +1,4 @@
-use Rattle.std.proofs.Common.{◌≡◌, ◌++◌, ◌∙◌, [], length, ap, ap₂, sym, arith}
+use Rattle.std.proofs.Common.{◌≡◌, ◌++◌, ◌∙◌, [], length, take, take_at, refl, ap, ap₂, sym, arith}
 use Rattle.typed_path.specs.declared.scan.separators.Separators.TheVariants.{Slash}
 use Rattle.typed_path.specs.places.{rows}
 use Rattle.typed_path.proofs.lemmas.components.Segments.{pieces}
@@ -6,8 +6,8 @@ use Rattle.typed_path.proofs.lemmas.places.UnixRows.{parted-end}
 use Rattle.typed_path.proofs.lemmas.places.CleanRows.{settled-kept}
 use Rattle.typed_path.proofs.unix.encoding.put_rows.Goals as goal
 
-pub returns-clause-ok : goal.returns-clause-ok
-returns-clause-ok c =
+pub returns : goal.returns
+returns c =
     let before = c.args.text.now.items in
     let root = c.split_root.result.0.now in
     let rest = c.split_root.result.1.now in
@@ -17,6 +17,8 @@ returns-clause-ok c =
     let size : length head ≡ c.len-len.result = omega (arith, c.len-len.ensures, c.extend_from_slice.new.self.ok, ap length begun) in
     let names = sym (settled-kept (pieces Slash left) []) ∙ sym c.behind_parents-left.ensures.same in
     let text = c.in_ok-put_left.ensures.ok ∙ ap₂ (λ t names. t ++ rows names) begun names in
+    let put =
     parted-end c.args.path.now before root rest _ _ c.split_root.ensures text
     (λ more. c.drop_separator.ensures.named (omega (arith, size, more)))
-    (λ fits. c.drop_separator.ensures.alone (omega (arith, size, fits)))
+    (λ fits. c.drop_separator.ensures.alone (omega (arith, size, fits))) in
+    record { ok = put; kept = ap (take (length before)) put ∙ take_at before _ (length before) refl; capacity = omega arith; succeeds = λ _. refl }
