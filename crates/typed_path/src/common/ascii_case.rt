@@ -121,12 +121,12 @@ fn compare_lowered<T: Encoding>(path: &[u8], other: &[u8]) -> Ordering
     let own = T::cursor(path);
     let others = T::cursor(other);
     return_order_of_prefixes!(own, others, compare_lowered_prefixes);
-    compare_each_lowered(own.body(), others.body())
+    compare_each_lowered::<T>(own.body(), others.body())
 }
 
 /// Returns the order of what two bodies have left in lower case, component by component.
-#[inline(always)]
-fn compare_each_lowered(mut rest: Body<'_>, mut wanted: Body<'_>) -> Ordering
+// One of each encoding, which is compiled for its separators.
+fn compare_each_lowered<T: Encoding>(mut rest: Body<'_>, mut wanted: Body<'_>) -> Ordering
     ensures { result ≡ lowered_cmp (body_items rest.entry) (body_items wanted.entry) }
 {
     order_step_by_step!(rest, wanted, compare_lowered_steps)

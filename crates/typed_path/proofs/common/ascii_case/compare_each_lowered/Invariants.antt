@@ -4,7 +4,7 @@ use Rattle.typed_path.specs.views.BodyViews.{body_items}
 use Rattle.typed_path.proofs.common.ascii_case.compare_each_lowered.Given as goal
 
 abbrev pub invariant-steps : goal.invariant-steps
-invariant-steps l = lowered_cmp (body_items l.fn.rest) (body_items l.fn.wanted) ≡ lowered_cmp (body_items l.rest) (body_items l.wanted)
+invariant-steps g l = lowered_cmp (body_items l.fn.rest) (body_items l.fn.wanted) ≡ lowered_cmp (body_items l.rest) (body_items l.wanted)
 
 abbrev pub decreases-steps : goal.decreases-steps
-decreases-steps l = length (body_items l.wanted)
+decreases-steps g l = length (body_items l.wanted)
