@@ -302,9 +302,10 @@ fn put_each_by_slashes(
 /// Does what [`put_kept_by_slashes`] does, segment by segment from the first.
 #[inline(always)]
 pub fn put_each_segment(text: &mut Vec<u8>, path: &[u8], anchored: bool) -> Result<(), AllocError>
-    ensures { PutsPart result text.old text.new
+    ensures puts { PutsPart result text.old text.new
         (rows_of Separators.Slash (kept_segments anchored (segment_kinds Separators.Slash path.now)))
         (length path.now + 1) }
+    ensures room { OnOk result (vec_len text.new ≤ vec_len text.old + length path.now + 1) }
 {
     let len = text.len();
     put_each_by_slashes(text, len, path, anchored)

@@ -275,9 +275,10 @@ fn behind_parents(text: &[u8]) -> &[u8]
 /// allocation fails, a part of them may stay.
 #[inline(always)]
 fn put_left(text: &mut Vec<u8>, path: &[u8]) -> Result<(), AllocError>
-    ensures { PutsPart result text.old text.new
+    ensures puts { PutsPart result text.old text.new
         (rows_of Separators.Slash (kept_segments true (segment_kinds Separators.Slash path.now)))
         (length path.now + 1) }
+    ensures room { OnOk result (vec_len text.new ≤ vec_len text.old + length path.now + 1) }
 {
     if path.is_empty() {
         return Ok(());

@@ -6,8 +6,8 @@ use Rattle.typed_path.specs.places.{segment_kinds}
 use Rattle.typed_path.proofs.lemmas.places.CleanRows.{kept-start}
 use Rattle.typed_path.proofs.common.rows.put_each_segment.Goals as goal
 
-pub returns : goal.returns
-returns c =
+pub returns-clause-puts : goal.returns-clause-puts
+returns-clause-puts c =
     let text = c.args.text.now.items in
     let kinds = segment_kinds Slash c.args.path.now in
     let size : c.len-len.result ≡ length text = omega (arith, c.len-len.ensures, c.args.text.now.ok) in

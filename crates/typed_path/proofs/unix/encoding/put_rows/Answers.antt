@@ -16,7 +16,7 @@ returns c =
     let begun = c.in_ok-extend_from_slice.ensures.items in
     let size : length head ≡ c.len-len.result = omega (arith, c.len-len.ensures, c.extend_from_slice.new.self.ok, ap length begun) in
     let names = sym (settled-kept (pieces Slash left) []) ∙ sym c.behind_parents-left.ensures.same in
-    let text = c.in_ok-put_left.ensures.ok ∙ ap₂ (λ t names. t ++ rows names) begun names in
+    let text = c.in_ok-put_left.ensures.puts.ok ∙ ap₂ (λ t names. t ++ rows names) begun names in
     let put =
     parted-end c.args.path.now before root rest _ _ c.split_root.ensures text
     (λ more. c.drop_separator.ensures.named (omega (arith, size, more)))
