@@ -124,8 +124,8 @@ fn compare_lowered<T: Encoding>(path: &[u8], other: &[u8]) -> Ordering
     compare_each_lowered::<T>(own.body(), others.body())
 }
 
-/// Returns the order of what two bodies have left in lower case, component by component.
-// One of each encoding, which is compiled for its separators.
+/// Returns the order of what two bodies have left in lower case, component by component. It is
+/// generic so that it is compiled for the separators of each encoding.
 fn compare_each_lowered<T: Encoding>(mut rest: Body<'_>, mut wanted: Body<'_>) -> Ordering
     ensures { result ≡ lowered_cmp (body_items rest.entry) (body_items wanted.entry) }
 {
