@@ -507,8 +507,9 @@ impl<'a> Body<'a> {
         }
     }
 
-    /// Returns the rest `text[from..]` of a body. It is empty or begins with a component, and
-    /// follows others.
+    /// Returns the rest `text[from..]` of a body, to be read as what comes after a component.
+    ///
+    /// It is empty or begins with a component.
     #[inline(always)]
     pub fn inside(text: &'a [u8], from: usize, separators: Separators) -> Body<'a>
         requires within { from ≤ length text.now }
@@ -607,8 +608,9 @@ impl<'a> Body<'a> {
         Some(self.take_segment(end))
     }
 
-    /// Takes the root and returns it, or `None` if another component or none is left first. It
-    /// needs no search, unlike [`Body::front`].
+    /// Takes the root and returns it, or returns `None` if what is left does not begin with one.
+    ///
+    /// It needs no search, unlike [`Body::front`].
     #[inline(always)]
     pub fn root(&mut self) -> Option<Step<'a>>
         ensures rooted { is_some result ≡ begins_with_root (kinds (parts (body_items self.old))) }

@@ -1,5 +1,5 @@
-//! Bytes split at a byte, stripped of a beginning or a base, and compared from their first difference
-//! on.
+//! Bytes split at a byte, stripped of a beginning or a base, and compared from their first
+//! difference on.
 //!
 //! A body is what a path has after its prefix. Two bodies share the bytes before their first
 //! difference, and the separators among these.
@@ -37,8 +37,9 @@ pub fn cut_at(byte: u8, text: &[u8]) -> Option<(&[u8], &[u8])>
     None
 }
 
-/// Returns what follows `beginning`, of 4 to 16 bytes, at the front of `text`, or `None` if `text`
-/// begins otherwise.
+/// Returns the bytes of `text` after `beginning`, or `None` if it does not begin with that.
+///
+/// `beginning` has 4 to 16 bytes.
 #[inline(always)]
 pub fn text_behind<'a>(beginning: &[u8], text: &'a [u8]) -> Option<&'a [u8]>
     requires short { (4 ≤ length beginning.now) × (length beginning.now ≤ 16) }
@@ -58,10 +59,11 @@ pub fn text_behind<'a>(beginning: &[u8], text: &'a [u8]) -> Option<&'a [u8]>
     if differs { None } else { Some(&text[len..]) }
 }
 
-/// Returns the index in `text` of the first component after those of `base`, or the length if none
-/// follows. `None` decides nothing: `base` is empty, `text` does not begin with its bytes, or its
-/// last segment goes on in `text`, as `b` of `a/b` in `a/bc`. `shared` is their
-/// [`first_difference`].
+/// Returns where in `text` the first component after those of `base` begins, or the length if none.
+///
+/// `None` leaves it open: `base` is empty, `text` does not begin with its bytes, or a segment of
+/// `text` goes on past the end of these, as `b` of `a/b` in `a/bc`. `shared` is the
+/// [`first_difference`] of the two.
 #[inline(always)]
 pub fn base_end(text: &[u8], base: &[u8], shared: usize, separators: Separators) -> Option<usize>
     requires { PartAt text.now base.now shared }
@@ -77,7 +79,10 @@ pub fn base_end(text: &[u8], base: &[u8], shared: usize, separators: Separators)
     end_behind(text, base, separators)
 }
 
-/// Like [`base_end`], for a `text` that begins with the bytes of `base`.
+/// Returns where in `text` the first component after those of `base` begins, or the length if none.
+///
+/// `text` begins with the bytes of `base`. `None` leaves it open: `base` is empty, or a segment of
+/// `text` goes on past the end of these, as `b` of `a/b` in `a/bc`.
 #[inline(always)]
 pub fn end_behind(text: &[u8], base: &[u8], separators: Separators) -> Option<usize>
     requires begins { take (length base.now) text.now ≡ base.now }
@@ -203,8 +208,10 @@ fn behind_blanks(text: &[u8], separators: Separators) -> &[u8]
     &text[skip_blanks(text, separators)..]
 }
 
-/// Compares two bodies that are equal byte by byte, or first differ within names. `None` leaves it
-/// open. `shared` is their [`first_difference`].
+/// Returns the order of two bodies that are equal byte by byte, or first differ within names.
+///
+/// `None` leaves it open: the segments with the first difference are not both names, or are one and
+/// the same name. `shared` is the [`first_difference`] of the two.
 #[inline(always)]
 pub fn order_behind(
     text: &[u8],
@@ -228,8 +235,10 @@ pub fn order_behind(
     order_of_ends(&text[shared..], &other[shared..], separators)
 }
 
-/// Compares two bodies by their first bytes: only one is empty, only one begins with a root, or
-/// [`order_of_dots`] tells. `None` leaves it open.
+/// Returns the order of two bodies if their first bytes decide it; `None` leaves it open.
+///
+/// They do if only one body is empty, if only one begins with a root, or if [`order_of_dots`]
+/// returns an order.
 #[inline(always)]
 pub fn order_of_fronts(text: &[u8], other: &[u8], separators: Separators) -> Option<Ordering>
     ensures { IfSome result (λ order.
@@ -256,8 +265,10 @@ pub fn order_of_fronts(text: &[u8], other: &[u8], separators: Separators) -> Opt
     }
 }
 
-/// Compares two bodies without a root of which one begins with a dot and the other with a greater
-/// byte, so with a name; or both with dots of different [`front_rank`]. `None` leaves it open.
+/// Returns the order of two bodies by the dots that they begin with; `None` leaves it open.
+///
+/// It is known if neither has a root, and one begins with a dot and the other with a greater byte,
+/// so with a name; or both begin with a dot, and have different [`front_rank`]s.
 #[inline(always)]
 fn order_of_dots(text: &[u8], other: &[u8], separators: Separators) -> Option<Ordering>
     ensures { IfSome result (λ order.
@@ -323,8 +334,10 @@ pub fn have_other_fronts(text: &[u8], other: &[u8], separators: Separators) -> b
     own != wanted && !(separators.contains(*own) && separators.contains(*wanted))
 }
 
-/// Compares `text` with `beginning`, with whose bytes it begins: equal if no component comes after
-/// these, else greater. `None` leaves it open: `beginning` is empty, or a segment spans its end.
+/// Returns the order of `text` beside `beginning`: greater if it has more components, else equal.
+///
+/// `text` begins with the bytes of `beginning`. `None` leaves it open: `beginning` is empty, or a
+/// segment of `text` goes on past the end of these.
 #[inline(always)]
 fn order_of_longer(text: &[u8], beginning: &[u8], separators: Separators) -> Option<Ordering>
     requires begins { take (length beginning.now) text.now ≡ beginning.now }
@@ -342,9 +355,10 @@ fn order_of_longer(text: &[u8], beginning: &[u8], separators: Separators) -> Opt
     Some(Ordering::Greater)
 }
 
-/// Compares two bodies of which one begins with the bytes of the other. `None` leaves it open:
-/// neither does, the shorter is empty, or a segment spans its end. `shared` is their
-/// [`first_difference`].
+/// Returns the order of two bodies of which one begins with the bytes of the other.
+///
+/// `None` leaves it open: neither does, the shorter is empty, or a segment of the longer goes on
+/// past the end of these bytes. `shared` is the [`first_difference`] of the two.
 #[inline(always)]
 pub fn order_of_beginning(
     text: &[u8],
@@ -365,10 +379,12 @@ pub fn order_of_beginning(
     None
 }
 
-/// Returns the rests of two bodies after components that both begin with: after all of one, if the
-/// other begins with its bytes, or after their last shared separator. If both rests hold nothing
-/// but names with one separator between, their first names differ, or one has none. `None` leaves
-/// it open.
+/// Returns what is left of two bodies after components that both begin with.
+///
+/// These are all of one body, if the other begins with its bytes and no segment spans their end;
+/// else those up to the last shared separator. If both rests are nothing but names with one
+/// separator between two, then one rest is empty, or their first names differ. `None` leaves it
+/// open.
 #[inline(always)]
 pub fn rests_behind_shared<'a>(
     text: &'a [u8],
@@ -394,9 +410,10 @@ pub fn rests_behind_shared<'a>(
     Some((&text[start..], &other[start..]))
 }
 
-/// Returns the length in bytes of the front of `text` with the components that both bodies begin
-/// with, if one begins with the bytes of the other or they first differ within names. `None` leaves
-/// it open.
+/// Returns how many bytes at the front of `text` hold the components that both bodies begin with.
+///
+/// It is known if one body is not empty, the other begins with its bytes, and no segment spans
+/// their end; or if the two first differ within names. `None` leaves it open.
 #[inline(always)]
 pub fn shared_front(text: &[u8], other: &[u8], separators: Separators) -> Option<usize>
     ensures within { IfSome result (λ n. n ≤ length text.now) }

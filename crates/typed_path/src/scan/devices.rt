@@ -18,8 +18,9 @@ pub fn may_be_device(name: &[u8]) -> bool
     begins_as_device(name) && is_taken_for_device(&name[..first_of(name, b':')])
 }
 
-/// Whether Windows takes `name` for a device if it has no `:`, as it does `con .txt`. Only the
-/// bytes before the first dot count, without the spaces at their end.
+/// Whether Windows takes a `name` without `:` for a device, as it does `con .txt`.
+///
+/// Only the bytes before the first dot count, without the spaces at their end.
 pub fn is_taken_for_device(name: &[u8]) -> bool
     ensures { result ≡ is_taken_for_device name.now }
 {

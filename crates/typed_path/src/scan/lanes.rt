@@ -98,7 +98,9 @@ fn last_by_one(text: &[u8], from: usize, to: usize, pair: (u8, u8)) -> usize
     at
 }
 
-/// Returns the first index that `marks`, the mask of the block at `at`, has, or else `at + N`.
+/// Returns the index in the text of the lowest bit set in `marks`, or `at + N` if none is set.
+///
+/// `marks` is the mask of the block of N bytes at `at`.
 #[inline(always)]
 pub fn first_marked<const N: usize>(marks: u64, at: usize) -> usize
     requires in_range { at + N < 2 ^ 64 }
@@ -264,8 +266,7 @@ fn in_lower_case<const N: usize>(block: Simd<u8, N>) -> Simd<u8, N>
     capitals.select(block + Simd::splat(32), block)
 }
 
-/// Returns the mask of the bytes in `text[at..at + N]` that differ from those of `other` at the
-/// same indices, both in ASCII lower case.
+/// Returns the mask of where `text` and `other` differ in `at..at + N`, both in ASCII lower case.
 #[inline]
 fn lowered_differences_at<const N: usize>(text: &[u8], other: &[u8], at: usize) -> u64
     requires lanes { (0 < N) × (N ≤ 64) }
@@ -281,8 +282,7 @@ fn lowered_differences_at<const N: usize>(text: &[u8], other: &[u8], at: usize) 
     own.simd_ne(others).to_bitmask()
 }
 
-/// Returns the mask of the bytes in `text[at..at + N]` that differ from those of `other` at the
-/// same indices; in ASCII lower case if `LOWER`.
+/// Returns the mask of where `text` and `other` differ in `at..at + N`; in lower case if `LOWER`.
 #[inline(always)]
 fn differences_at<const N: usize, const LOWER: bool>(text: &[u8], other: &[u8], at: usize) -> u64
     requires lanes { (0 < N) × (N ≤ 64) }
@@ -325,9 +325,8 @@ fn first_difference_in_block<const N: usize, const LOWER: bool>(
     first_marked::<N>(differences_at::<N, LOWER>(text, other, at), at)
 }
 
-/// Returns the index of the first difference in `..to`, or `to` if there is none; in ASCII lower
-/// case if `LOWER`. `..from` is known to be equal, and only the last N bytes before `to` are
-/// compared.
+/// Returns the first difference in `..to`, or else `to`; in lower case if `LOWER`. `..from` is
+/// known to be equal, and only the last N bytes before `to` are compared.
 #[inline(always)]
 fn first_difference_in_last_block<const N: usize, const LOWER: bool>(
     text: &[u8],
@@ -392,8 +391,7 @@ fn first_difference_by_one<const LOWER: bool>(text: &[u8], other: &[u8], to: usi
     at
 }
 
-/// Returns the index of the first difference, or the length of the shorter slice if it has none; in
-/// ASCII lower case if `LOWER`.
+/// Returns the first difference, or else the length of the shorter slice; in lower case if `LOWER`.
 #[inline(always)]
 fn first_place_of_difference<const LOWER: bool>(text: &[u8], other: &[u8]) -> usize
     ensures { IsFirstPlace (differs_in LOWER text.now other.now) 0 (min (length text.now) (length other.now)) result }
@@ -707,7 +705,9 @@ pub fn has_control(text: &[u8]) -> bool
     has_control_by_one(text)
 }
 
-/// Returns the mask of the NULs and dots before another in `text[at..at + N]`. Reads one byte more.
+/// Returns the mask of the bytes in `text[at..at + N]` that are NUL, or a dot with a dot after it.
+///
+/// Reads one byte past the block.
 #[inline(always)]
 fn nul_or_dot_pair_at<const N: usize>(text: &[u8], at: usize) -> u64
     requires lanes { (0 < N) × (N ≤ 64) }
@@ -718,7 +718,7 @@ fn nul_or_dot_pair_at<const N: usize>(text: &[u8], at: usize) -> u64
         | (marks_of::<N>(text, at, b'.') & marks_of::<N>(text, at + 1, b'.'))
 }
 
-/// Whether a byte in `text[at..at + N]` is NUL, or a dot before another. Reads one byte more.
+/// Whether `text[at..at + N]` has NUL, or a dot with a dot after it. Reads one byte past the block.
 #[inline(always)]
 fn has_nul_or_dot_pair_in_block<const N: usize>(text: &[u8], at: usize) -> bool
     requires lanes { (0 < N) × (N ≤ 64) }
@@ -728,7 +728,7 @@ fn has_nul_or_dot_pair_in_block<const N: usize>(text: &[u8], at: usize) -> bool
     nul_or_dot_pair_at::<N>(text, at) != 0
 }
 
-/// Whether a byte of `text[..to]` is NUL, or a dot before another. `to` is in `N..=2 * N`.
+/// Whether `text[..to]` has NUL, or a dot with a dot after it. `to` is in `N..=2 * N`.
 #[inline(always)]
 fn has_nul_or_dot_pair_in_two<const N: usize>(text: &[u8], to: usize) -> bool
     requires lanes { (0 < N) × (N ≤ 64) }
@@ -739,7 +739,7 @@ fn has_nul_or_dot_pair_in_two<const N: usize>(text: &[u8], to: usize) -> bool
     has_nul_or_dot_pair_in_block::<N>(text, 0) | has_nul_or_dot_pair_in_block::<N>(text, to - N)
 }
 
-/// Whether a byte of `text[..to]` is NUL, or a dot right before another, byte by byte.
+/// Whether `text[..to]` has NUL, or a dot with a dot after it, byte by byte.
 #[inline(always)]
 fn has_nul_or_dot_pair_by_one(text: &[u8], to: usize) -> bool
     requires { to < length text.now }
@@ -760,7 +760,7 @@ fn is_nul_or_dot_pair(first: u8, second: u8) -> bool
     first == b'\0' || (first == b'.' && second == b'.')
 }
 
-/// Whether a byte of `text[..to]` is NUL, or a dot right before another. `text` goes on after `to`.
+/// Whether `text[..to]` has NUL, or a dot with a dot after it. `text` goes on after `to`.
 #[inline(always)]
 fn has_nul_or_dot_pair_before(text: &[u8], to: usize) -> bool
     requires { to < length text.now }

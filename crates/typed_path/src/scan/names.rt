@@ -53,8 +53,10 @@ pub fn leading_names(text: &[u8], pair: (u8, u8)) -> Leading
     names_behind(text, 0, pair)
 }
 
-/// Like [`leading_names`], but for 34 bytes or more returns `First(0)` unless the first 32 show
-/// three separators with a name after each.
+/// Returns what [`leading_names`] does, but `First(0)` if few or long names are in front.
+///
+/// So it is for 34 bytes or more, if the first 32 have fewer than three separators, or show that
+/// one of the first four segments may be no name.
 #[inline(always)]
 pub fn leading_short_names(text: &[u8], pair: (u8, u8)) -> Leading
     ensures { TellsNames pair text.now result }
@@ -86,8 +88,10 @@ pub fn leading_short_names(text: &[u8], pair: (u8, u8)) -> Leading
     Leading::First(run + 1)
 }
 
-/// Like [`leading_names`], for two bytes or more that begin with a name. No separator in
-/// `text[..from]` comes before a segment that may be no name.
+/// Returns how much at the front of `text` is names, as [`leading_names`] does.
+///
+/// `text` has `from + 2` bytes or more. It begins with a name, and one comes after each separator
+/// in `text[..from]`; none of these names begins with `..`.
 #[inline(always)]
 fn names_behind(text: &[u8], from: usize, pair: (u8, u8)) -> Leading
     requires size { from + 2 ≤ length text.now }
@@ -202,9 +206,10 @@ fn no_names_at<const N: usize>(text: &[u8], at: usize, pair: (u8, u8)) -> u64
     marks_at::<N>(text, at, pair) & (marks_at::<N>(text, at + 1, pair) | dots)
 }
 
-/// Returns the mask of the separators in `text[at..at + 32]` before segments that may be no names,
-/// without reading past the block: bit 30 may be missing, and bit 31 is. `ends` is the mask of all
-/// separators in the block.
+/// Returns the mask of the separators in `text[at..at + 32]` before segments that may be no names.
+///
+/// Nothing past the block is read, so bit 31 is never set, and bit 30 may be unset though the
+/// segment may be no name. `ends` is the mask of all separators in the block.
 #[inline(always)]
 fn no_names_among(text: &[u8], at: usize, ends: u64, pair: (u8, u8)) -> u64
     requires in_range { at + 32 ≤ length text.now }
@@ -245,7 +250,7 @@ pub fn has_no_blank_behind(text: &[u8], separators: Separators) -> bool
     has_no_blank_by_one(text, separators)
 }
 
-/// Like [`has_no_blank_behind`], byte by byte.
+/// Whether no segment but the first is empty or `.`, byte by byte. `false` leaves it open.
 #[inline(always)]
 fn has_no_blank_by_one(text: &[u8], separators: Separators) -> bool
     ensures { IsTrue result → has_blank_behind separators text.now ≡ false }
@@ -273,7 +278,9 @@ pub fn begins_blank(text: &[u8], separators: Separators) -> bool
     }
 }
 
-/// Like [`has_no_blank_behind`], by blocks of N bytes, for N bytes or more.
+/// Whether no segment but the first is empty or `.`, by blocks of N bytes. `false` leaves it open.
+///
+/// `text` has N bytes or more.
 #[inline(always)]
 fn has_no_blank_in_blocks<const N: usize>(text: &[u8], separators: Separators) -> bool
     requires lanes { (8 ≤ N) × (N ≤ 32) }

@@ -354,16 +354,18 @@ pub fn look_at_path(path: &[u8]) -> Look
 pub enum Look {
     /// Nothing that was searched for.
     Clean,
-    /// Two dots side by side, or in less than 32 bytes NUL.
+    /// Two dots side by side; in a text of less than 32 bytes also NUL.
     Dots,
     /// A byte or a device that was searched for, and how many bytes had been searched. If two dots
     /// are searched for too, none are side by side in these bytes.
     Offence(usize),
 }
 
-/// Searches a text, split at `/` and `\`, for a segment that stands for a device; with `dots` for
-/// two dots side by side; with `strays` for NUL, one of `:?*"><|`, or one of the pair. Stops at the
-/// first block that has one.
+/// Returns what a search of `text` by blocks finds first, or [`Look::Clean`] if it finds nothing.
+///
+/// It looks for a segment, cut at `/` and `\`, that stands for a device; with `dots` for two dots
+/// side by side; with `strays` for NUL, `:?*"><|` and the two bytes in `strays`. It stops at the
+/// first block that has any of these.
 #[inline(always)]
 fn look_for(dots: bool, strays: Option<(u8, u8)>, text: &[u8]) -> Look
     ensures clean { result ≡ Look.Clean → (has_stray_of strays text.now ≡ false)
@@ -410,7 +412,9 @@ fn look_for(dots: bool, strays: Option<(u8, u8)>, text: &[u8]) -> Look
     Look::Clean
 }
 
-/// Like [`look_for`], for a short text, segment by segment.
+/// Returns what [`look_for`] does, by looks at all of `text`, which is meant to be short.
+///
+/// With `dots` it returns [`Look::Dots`] for a NUL too.
 #[inline(always)]
 fn look_by_segments(dots: bool, strays: Option<(u8, u8)>, text: &[u8]) -> Look
     ensures clean { result ≡ Look.Clean → (has_stray_of strays text.now ≡ false)
@@ -484,9 +488,11 @@ const SECONDS: [u8; 32] = [
     0, 0, 0, 0, 0, 0, b'O',
 ];
 
-/// Returns the mask of the separators in `text[at..at + 32]` after which a device may begin: its
-/// first two letters come next, in a stem of three or four bytes. `behind` marks ends after the
-/// block: [`ENDED`] if it ends the text, else 0, and bits from 27 on may be missing then.
+/// Returns the mask of the separators in `text[at..at + 32]` after which a device may begin.
+///
+/// A first and a second letter of device names come next, and after three or four bytes a stem
+/// ends, or the text has ended. `behind` is [`ENDED`] if the text ends with the block. Else it is
+/// 0, and a bit from 27 on may be unset that should be set.
 #[inline(always)]
 fn may_begins_at(text: &[u8], at: usize, behind: u64) -> u64
     requires in_range { at + 32 ≤ length text.now }

@@ -40,7 +40,7 @@ pub struct Piece<'a> {
 }
 
 impl<'a> Piece<'a> {
-    /// Returns the bytes of the component.
+    /// Returns the bytes of the component as in the path, but of a root `/`, or `\` on Windows.
     pub fn as_bytes(self) -> &'a [u8]
         ensures { result.now ≡ (part_of self.entry).text }
     {
@@ -155,8 +155,9 @@ pub fn step_of(segment: &[u8], separators: Separators) -> Step<'_>
     Step { kind, text }
 }
 
-/// Returns the first component of `text`, which begins with it, and the index of the next one, or
-/// the length if there is none. `end` is the index of the first separator, or the length.
+/// Returns the first component of `text` and the index of the next one, or the length if none.
+///
+/// `text` begins with a component. `end` is the index of its first separator, or the length.
 #[inline(always)]
 pub fn front_step(text: &[u8], end: usize, separators: Separators) -> (Step<'_>, usize)
     requires some { 0 < length text.now }
