@@ -24,8 +24,9 @@ pub(crate) struct Lead {
 }
 
 impl Lead {
-    /// Returns how many `..` lead above where the path begins: the unmatched ones, or none if it is
-    /// anchored.
+    /// Returns how many `..` lead above where the path begins; 0 if it is anchored.
+    ///
+    /// Else these are the unmatched ones.
     #[inline(always)]
     pub(crate) fn rising(self) -> usize
         ensures { result ≡ (if self.is_anchored then 0 else self.unmet) }
@@ -83,8 +84,10 @@ pub(crate) fn begins_rooted(cursor: Cursor<'_>) -> bool
     cursor.has_implicit_root() || cursor.has_physical_root()
 }
 
-/// Takes names and `..` from the back up to the last kept name, and returns that; `None` if no kept
-/// name is left. `owed` counts the `..` taken so far that have yet to cancel a name.
+/// Takes components from the back up to the last kept name, and returns that.
+///
+/// `None` if no kept name is left; then all are taken. `owed` counts the `..` that were taken and
+/// have not yet cancelled a name.
 #[inline(always)]
 pub(crate) fn last_name<'a>(rest: &mut Body<'a>, owed: &mut usize) -> Option<&'a [u8]>
     requires { owed.old + length (body_items rest.old) < 2 ^ 64 }

@@ -142,9 +142,10 @@ impl<T: Encoding> PathBuf<T> {
         T::push_checked(&mut self.inner, path.as_bytes())
     }
 
-    /// Does what [`PathBuf::push`] does, where `known` is what is known of this path, and returns
-    /// what is known of the result, as [`Encoding::push_next`] does: so a row of pushes need not
-    /// read this path anew for each.
+    /// Pushes `path` as [`PathBuf::push`] does, and returns what is known of the result.
+    ///
+    /// `known` is what is known of this path, as [`Encoding::push_next`] says: so a row of pushes
+    /// need not read this path anew for each.
     pub(crate) fn push_next(
         &mut self,
         path: Path<'_, T>,

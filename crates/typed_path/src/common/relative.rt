@@ -115,8 +115,9 @@ fn near_texts<'a>(text: &'a [u8], other: &'a [u8], separators: Separators) -> Op
     Some(Near { up, rest, ended })
 }
 
-/// Returns how many names a text has, if a look at its bytes finds nothing but names, with one
-/// separator after each or after each but the last. `None` leaves it open. The empty text has 0.
+/// Returns how many names `text` has, if it is nothing but names with one separator between two.
+///
+/// A separator at its end is allowed. `None` leaves it open. The empty text has 0.
 #[inline(always)]
 fn names_alone(text: &[u8], separators: Separators) -> Option<usize>
     ensures { IfSome result (λ count. (ended : Bool) × (names : List (List ℕ))
@@ -127,9 +128,9 @@ fn names_alone(text: &[u8], separators: Separators) -> Option<usize>
     Some(if ended { ends } else { ends + 1 })
 }
 
-/// Returns whether a separator comes after the last name too, if a look at the bytes of a text
-/// finds nothing but names, with one separator between two. `None` leaves it open. Of the empty
-/// text it is `Some(true)`.
+/// Returns whether `text` ends with a separator, if it is nothing but names with one between two.
+///
+/// `None` leaves it open. Of the empty text it is `Some(true)`.
 #[inline(always)]
 fn ends_alone(text: &[u8], separators: Separators) -> Option<bool>
     ensures { IfSome result
@@ -365,7 +366,7 @@ fn skip(rest: &mut Body<'_>, owed: &mut usize, count: usize)
     }
 }
 
-/// Whether the last `count` kept names are free of `/`; always `true` if `/` separates.
+/// Whether the last `count` names that no `..` cancels hold no `/`; `true` if `/` separates.
 #[tactic(auto, using(crate::proofs::lemmas::places::NearSteps::plain_stand))]
 fn can_stand(mut rest: Body<'_>, count: usize) -> bool
     requires fits { length (body_items rest) < 2 ^ 64 }

@@ -1,6 +1,6 @@
 //! `..` and names written in rows, each with a separator after it; and the clean path, which is
-//! made of such rows. If allocation fails, a call may leave a part of what it appends, unless its
-//! comment says otherwise.
+//! made of such rows. Which names are kept, and which `..` unmatched, is said in `lead`. If
+//! allocation fails, a call may leave a part of what it appends, unless its comment says otherwise.
 
 ghost use Rattle.std.specs.Prelude.{◌≡◌, ◌<◌, ◌≤◌, ◌+◌, ◌++◌, ◌∷◌, List, ℕ, [], take, length, IfOk, IsOk, OnOk, OnErr, MatchOption, ◌||◌, false, drop, is_some, if◌then◌else◌, Some};
 ghost use Rattle.std.specs.List.{slice_split};
@@ -31,7 +31,7 @@ pub(crate) fn put_clean<T: Encoding>(text: &mut Vec<u8>, path: &[u8]) -> Result<
     cut_back(text, len, done)
 }
 
-/// Does what [`put_clean`] does, but a part of the clean path may be left if allocation fails.
+/// Appends the clean path of `path` to `text`. If allocation fails, a part of it may stay.
 #[inline(always)]
 fn put_whole<T: Encoding>(text: &mut Vec<u8>, path: &[u8]) -> Result<(), AllocError>
     ensures { PutsPart result text.old text.new
@@ -219,7 +219,7 @@ pub fn put_kept(
     }
 }
 
-/// Does what [`put_kept`] does, for any separators.
+/// Appends the unmatched `..` and the kept names of `path`, as [`put_kept`] does.
 fn put_kept_by(
     text: &mut Vec<u8>,
     path: &[u8],
@@ -234,7 +234,9 @@ fn put_kept_by(
     settle!(text, path, anchored, separators, put_one_by_one, separators)
 }
 
-/// Does what [`put_kept`] does, if only `/` separates.
+/// Appends the unmatched `..` and the kept names of `path`, each with a `/` after it.
+///
+/// Only `/` separates. If `anchored`, no `..` is appended. A root in front adds nothing.
 pub fn put_kept_by_slashes(
     text: &mut Vec<u8>,
     path: &[u8],
@@ -278,7 +280,9 @@ fn put_one_by_one(
     settle_each!(text, floor, path, separators, anchored)
 }
 
-/// Does what [`put_one_by_one`] does, if only `/` separates.
+/// Applies the segments of `path`, in which only `/` separates, to the names in `text[floor..]`.
+///
+/// It applies them one by one, as [`put_segment`] does.
 #[inline(always)]
 fn put_each_by_slashes(
     text: &mut Vec<u8>,
@@ -299,7 +303,9 @@ fn put_each_by_slashes(
     settle_each!(text, floor, path, Separators::Slash, anchored)
 }
 
-/// Does what [`put_kept_by_slashes`] does, segment by segment from the first.
+/// Appends the unmatched `..` and the kept names of `path`, as [`put_kept_by_slashes`] does.
+///
+/// It looks for no run of names in front, but goes segment by segment from the first.
 #[inline(always)]
 pub fn put_each_segment(text: &mut Vec<u8>, path: &[u8], anchored: bool) -> Result<(), AllocError>
     ensures puts { PutsPart result text.old text.new

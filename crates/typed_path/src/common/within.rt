@@ -52,10 +52,11 @@ fn within_by_components<T: Encoding>(path: &[u8], base: &[u8]) -> bool
     begin_alike(own.body(), other.body(), lead.names - wanted.names)
 }
 
-/// Whether `base`, whose prefix is that of `own`, if any, has no kept names, and contains `own`
-/// since that leads no higher. A root without a prefix contains every path without one; a base that
-/// is not anchored contains those that are not either, and have no more unmatched `..`.
-/// `is_prefixed` says whether they have one.
+/// Whether `base` has no kept names and contains `own`, since that leads no higher.
+///
+/// Both have the same prefix or none; `is_prefixed` says whether they have one. A root without a
+/// prefix contains every path without one. A base that is not anchored contains those that are not
+/// either, and have no more unmatched `..`.
 fn holds_all(own: Lead, base: Lead, is_prefixed: bool) -> bool
     ensures { result ≡ ((base.names == 0) && (if base.is_anchored then not is_prefixed
         else not own.is_anchored && nat_le own.unmet base.unmet)) }

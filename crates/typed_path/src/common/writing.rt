@@ -234,9 +234,10 @@ pub fn cut_back(
     done
 }
 
-/// Returns `rest`, which comes after `segment`. If `segment` is empty or `.`, it leaves out the
-/// empty and `.` segments at the front of `rest` too, each with the separator after it; a `.` that
-/// ends `rest` stays.
+/// Returns `rest`, which comes after `segment`, or less if empty segments and `.` stand there.
+///
+/// If `segment` is empty or `.`, the empty and `.` segments at the front of `rest` are left out,
+/// each with the separator after it. A `.` that ends `rest` stays.
 #[inline(always)]
 pub fn behind_segment<'a>(segment: &[u8], rest: &'a [u8], separators: Separators) -> &'a [u8]
     ensures same { (names : List (List ℕ))
