@@ -427,7 +427,7 @@ pub trait Component<'a>: Copy + fmt::Debug + Ord + Hash {
 
     ghost part: { Self → Part };
 
-    /// Returns the bytes of the component.
+    /// Returns the bytes of the component as in the path, but of a root `/`, or `\` on Windows.
     fn as_bytes(&self) -> &'a [u8]
         ensures { result.now ≡ (part self.now).text };
 

@@ -137,8 +137,9 @@ impl<'a, T: Encoding> Path<'a, T> {
         refused_for(self.unportable())
     }
 
-    /// Returns the first component that is not portable, with its bytes as in the path, and the error
-    /// of [`Path::check_portable`]; `None` if the path is portable.
+    /// Returns the first component that is not portable, and why; `None` if the path is portable.
+    ///
+    /// It has its bytes as in the path; the error is that of [`Path::check_portable`].
     ///
     /// Of `a/nul .txt/b` it is `nul .txt` with `Device`.
     pub fn unportable(self) -> Option<(&'a [u8], PortableError)>

@@ -45,8 +45,9 @@ pub fn piece_may_be_device(piece: Piece<'_>) -> bool
     matches!(piece.kind, PieceKind::Normal) && may_be_device(piece.text)
 }
 
-/// Returns the first of the components left that is not portable, with its bytes as in the path,
-/// and why; `None` if all are portable.
+/// Returns the first component left that is not portable, and why; `None` if all are portable.
+///
+/// It has its bytes as in the path.
 pub fn first_unportable<'a, T: Encoding>(
     mut rest: Components<'a, T>,
 ) -> Option<(&'a [u8], PortableError)>
@@ -60,7 +61,7 @@ pub fn first_unportable<'a, T: Encoding>(
     None
 }
 
-/// Returns the fault of a component that was found as an error, `Ok` if none was found.
+/// Returns `Err` with the fault of the component that was `found`, or `Ok` if there is none.
 pub fn refused_for(found: Option<(&[u8], PortableError)>) -> Result<(), PortableError>
     ensures { error_of result ≡ option_map (λ o. o.1) (option_map offence_of found.entry) }
 {
@@ -70,7 +71,7 @@ pub fn refused_for(found: Option<(&[u8], PortableError)>) -> Result<(), Portable
     }
 }
 
-/// Returns a fault as an error, `Ok` if there is none.
+/// Returns `Err` with the fault, or `Ok` if there is none.
 pub fn refused_as(fault: Option<PortableError>) -> Result<(), PortableError>
     ensures { error_of result ≡ fault }
 {

@@ -169,8 +169,9 @@ impl<'a> TypedPath<'a> {
         each!(self, path => path.check_portable())
     }
 
-    /// Returns the first component that is not portable, with its bytes as in the path, and the error
-    /// of [`TypedPath::check_portable`]; `None` if the path is portable.
+    /// Returns the first component that is not portable, and why; `None` if the path is portable.
+    ///
+    /// It has its bytes as in the path; the error is that of [`TypedPath::check_portable`].
     pub fn unportable(self) -> Option<(&'a [u8], PortableError)>
         ensures { option_map offence_of result
             ≡ unportable (typed_dialect self.entry) (typed_bytes self.entry) }

@@ -210,8 +210,9 @@ impl<'a, T: Utf8Encoding> Utf8Path<'a, T> {
         self.path.check_portable()
     }
 
-    /// Returns the first component that is not portable, with its text as in the path, and the error
-    /// of [`Utf8Path::check_portable`]; `None` if the path is portable.
+    /// Returns the first component that is not portable, and why; `None` if the path is portable.
+    ///
+    /// It has its text as in the path; the error is that of [`Utf8Path::check_portable`].
     pub fn unportable(self) -> Option<(&'a str, PortableError)>
         ensures { option_map offence_of result
             ≡ unportable T.Bytes.dialect (utf8_bytes self.entry) }

@@ -143,8 +143,9 @@ impl<'a> Utf8TypedPath<'a> {
         each!(self, path => path.check_portable())
     }
 
-    /// Returns the first component that is not portable, with its text as in the path, and the error
-    /// of [`Utf8TypedPath::check_portable`]; `None` if the path is portable.
+    /// Returns the first component that is not portable, and why; `None` if the path is portable.
+    ///
+    /// It has its text as in the path; the error is that of [`Utf8TypedPath::check_portable`].
     pub fn unportable(self) -> Option<(&'a str, PortableError)>
         ensures { option_map offence_of result
             ≡ unportable (typed_dialect self.entry) (typed_text self.entry) }

@@ -289,7 +289,9 @@ impl Utf8TypedPathBuf {
         self.to_path().check_portable()
     }
 
-    /// Returns the first component that is not portable, and why. See [`Utf8TypedPath::unportable`].
+    /// Returns the first component that is not portable, and why.
+    ///
+    /// See [`Utf8TypedPath::unportable`].
     pub fn unportable(&self) -> Option<(&str, PortableError)>
         ensures { option_map offence_of result
             ≡ unportable (typed_dialect self.now) (owned_bytes self.now) }
