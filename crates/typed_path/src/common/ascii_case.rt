@@ -23,11 +23,11 @@ use std::alloc::{AllocError, Global};
 use std::cmp::Ordering;
 
 impl<'a, T: Encoding> Path<'a, T> {
-    /// Whether the path has the same components as `other` in lower case, as
-    /// [`Path::to_ascii_lowercase`] makes it.
+    /// Whether the path and `other` have the same components in lower case.
     ///
-    /// So `a/B` equals `A//b`, and on Windows `\\Server\a` equals `\\server\A`. But `\\?\UNC\s\h`
-    /// does not equal `\\?\unc\s\h`, which has another prefix.
+    /// It is the lower case of [`Path::to_ascii_lowercase`]. So `a/B` equals `A//b`, and on Windows
+    /// `\\Server\a` equals `\\server\A`. But `\\?\UNC\s\h` does not equal `\\?\unc\s\h`, which has
+    /// another prefix.
     pub fn eq_ignore_ascii_case(self, other: Path<'_, T>) -> bool
         ensures { result ≡ is_same T.dialect (lowered T.dialect (path_bytes self.entry))
             (lowered T.dialect (path_bytes other.entry)) }
@@ -45,8 +45,7 @@ impl<'a, T: Encoding> Path<'a, T> {
         compare_lowered::<T>(self.as_bytes(), other.as_bytes())
     }
 
-    /// Whether the path begins with the components of `base` in lower case, compared as they are
-    /// written.
+    /// Whether the path begins with the components of `base`, as both are written in lower case.
     ///
     /// So `Src/Lib` begins with `src`, and on Windows `c:\a` with `C:`.
     pub fn starts_with_ignore_ascii_case(self, base: Path<'_, T>) -> bool

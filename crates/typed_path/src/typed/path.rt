@@ -286,8 +286,9 @@ impl<'a> TypedPath<'a> {
         each!(self, path => path.starts_with(Path::new(base)))
     }
 
-    /// Whether the path begins with the components of `base` in lower case, read in the same
-    /// dialect and compared as they are written.
+    /// Whether the path begins with the components of `base`, as both are written in lower case.
+    ///
+    /// `base` is read in the same dialect.
     pub fn starts_with_ignore_ascii_case(self, base: &[u8]) -> bool
         ensures { result ≡ path_starts_with (typed_dialect self.entry)
             (lowered (typed_dialect self.entry) (typed_bytes self.entry))

@@ -424,8 +424,8 @@ impl TypedPathBuf {
         self.to_path().starts_with(base)
     }
 
-    /// Whether the path begins with the components of `base` in lower case, read in the same
-    /// dialect and compared as they are written. See [`TypedPath::starts_with_ignore_ascii_case`].
+    /// Whether the path begins with the components of `base`, as both are written in lower case.
+    /// See [`TypedPath::starts_with_ignore_ascii_case`].
     pub fn starts_with_ignore_ascii_case(&self, base: &[u8]) -> bool
         ensures { result ≡ path_starts_with (typed_dialect self.now)
             (lowered (typed_dialect self.now) (owned_bytes self.now))

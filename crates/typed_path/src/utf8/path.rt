@@ -331,8 +331,7 @@ impl<'a, T: Utf8Encoding> Utf8Path<'a, T> {
         self.as_bytes_path().starts_with(base.as_bytes_path())
     }
 
-    /// Whether the path begins with the components of `base` in lower case, compared as they are
-    /// written.
+    /// Whether the path begins with the components of `base`, as both are written in lower case.
     pub fn starts_with_ignore_ascii_case(self, base: Utf8Path<'_, T>) -> bool
         ensures { result ≡ path_starts_with T.Bytes.dialect
             (lowered T.Bytes.dialect (utf8_bytes self.entry))
@@ -342,7 +341,7 @@ impl<'a, T: Utf8Encoding> Utf8Path<'a, T> {
             .starts_with_ignore_ascii_case(base.as_bytes_path())
     }
 
-    /// Whether the path has the same components as `other` in lower case.
+    /// Whether the path and `other` have the same components in lower case.
     pub fn eq_ignore_ascii_case(self, other: Utf8Path<'_, T>) -> bool
         ensures { result ≡ is_same T.Bytes.dialect
             (lowered T.Bytes.dialect (utf8_bytes self.entry))
