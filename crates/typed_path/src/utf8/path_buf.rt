@@ -170,8 +170,9 @@ impl<T: Utf8Encoding> Utf8PathBuf<T> {
         self.inner.push_checked(path.as_bytes_path())
     }
 
-    /// Does what `push` does, where `known` is what is known of this path, and returns what is
-    /// known of the result, as `PathBuf::push_next` does.
+    /// Pushes `path` as [`Utf8PathBuf::push`] does, and returns what is known of the result.
+    ///
+    /// `known` is what is known of this path, as in `PathBuf::push_next`.
     pub(super) fn push_next(
         &mut self,
         path: Utf8Path<'_, T>,

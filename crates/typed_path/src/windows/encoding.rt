@@ -1,4 +1,4 @@
-//! The encoding of Windows paths, with its fast paths over bytes.
+//! The encoding of Windows paths, with looks at bytes that spare a reading of components.
 
 ghost use Rattle.std.specs.Prelude.{◌≡◌, ◌≤◌, ◌&&◌, true, false, length, codes, Some, None, IfSome, IsTrue};
 ghost use Rattle.typed_path.specs.components.{windows, separators, is_separator, prefix_of, prefix, comps};
@@ -245,9 +245,10 @@ fn behind<'a>(path: &'a [u8], base: &[u8]) -> Option<&'a [u8]>
     Some(&body[end..])
 }
 
-/// Returns the length in bytes of the prefix that two paths begin with, written alike, or 0 if
-/// neither has one, and the separators of both. `None` leaves it open. `shared` is their
-/// [`first_difference`].
+/// Returns the length of the prefix that two paths begin with, written alike, and their separators.
+///
+/// It is 0 if neither has a prefix. `None` leaves it open. `shared` is the [`first_difference`] of
+/// the two.
 #[inline(always)]
 fn shared_written_prefix(path: &[u8], other: &[u8], shared: usize) -> Option<(usize, Separators)>
     requires { PartAt path.now other.now shared }
@@ -290,8 +291,9 @@ fn shared_drive(path: &[u8], other: &[u8]) -> Option<usize>
 /// The least number of bytes that two paths have to share for a prefix other than `C:` to be read.
 const PARTED: usize = 6;
 
-/// Compares two paths if one begins with two separators, only one has a drive `C:`, or both have
-/// different ones. `None` leaves it open.
+/// Returns the order of two paths of which one begins with two separators, or whose drives differ.
+///
+/// They differ also if only one has a drive `C:`. `None` leaves it open.
 fn order_by_prefixes(path: &[u8], other: &[u8]) -> Option<Ordering>
     ensures { IfSome result (λ order. path_cmp windows path.now other.now ≡ order) }
 {
@@ -308,7 +310,9 @@ fn order_by_prefixes(path: &[u8], other: &[u8]) -> Option<Ordering>
     }
 }
 
-/// Compares two paths of which one begins with two separators. `None` leaves it open.
+/// Returns the order of two paths of which one begins with two separators.
+///
+/// `None` leaves it open: neither has a prefix.
 fn order_behind_marked(path: &[u8], other: &[u8]) -> Option<Ordering>
     ensures { IfSome result (λ order. path_cmp windows path.now other.now ≡ order) }
 {
@@ -337,7 +341,9 @@ fn whole(path: &[u8]) -> Body<'_>
     Body::new(path, 0, Separators::of_windows(path))
 }
 
-/// Compares two paths with the prefixes `found` and `others`: by these, and then by what follows.
+/// Returns the order of two paths with the prefixes `found` and `others`.
+///
+/// It is that of the prefixes, and if these are equal, that of what follows them.
 fn order_by_both_prefixes(
     path: &[u8],
     found: Found<'_>,

@@ -104,7 +104,7 @@ fn takes_rows(path: &[u8], found: Found<'_>, head: RowHead<'_>) -> bool
         && !(Separators::of_windows(path).is_verbatim() && is_separated(Separators::Slash, behind))
 }
 
-/// Splits `path` into its first `end` bytes, which are its prefix, its root, and the rest.
+/// Splits `path` in three: its first `end` bytes, which are its prefix; its root; and the rest.
 #[inline(always)]
 fn head_behind(path: &[u8], end: usize) -> RowHead<'_>
     requires { end ≤ length path.now }
@@ -182,9 +182,11 @@ fn put_segments(text: &mut Vec<u8>, len: usize, path: &[u8]) -> Result<bool, All
     put_one_by_one(text, len, path)
 }
 
-/// Like [`put_segments`], for a path without `:`, in which no name begins with a drive `C:`, so it
-/// returns `true`. `names` is what [`leading_short_names`] returns for `path`; names side by side
-/// are appended at once.
+/// Appends the names that `path` resolves to, each with `\` after it, and returns `true`.
+///
+/// `path` has no `:`, so no name begins with a drive. The head before the names has `len` bytes,
+/// and is all of `text`. `names` is what [`leading_short_names`] returns for `path`; names side by
+/// side are appended at once.
 fn put_undriven(
     text: &mut Vec<u8>,
     len: usize,

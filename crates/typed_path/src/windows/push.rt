@@ -145,10 +145,11 @@ fn has_verbatim_kind(path: &[u8]) -> bool
     }
 }
 
-/// Pushes `other` onto the path `text[start..]`, of which `known` is known, and returns what is
-/// known of the result: the length of its prefix if that is verbatim and the path is spelled, or
-/// `None`. If `known` is wrong, the result is unspecified. If allocation fails, `text` is
-/// unchanged.
+/// Pushes `other` onto the path `text[start..]`, and returns what is known of the result.
+///
+/// That is the length of its prefix if that is verbatim and the path is spelled, else `None`.
+/// `known` is the same of the path before; if it is wrong, the result is unspecified. If allocation
+/// fails, `text` is unchanged.
 #[inline]
 pub fn push_next(
     text: &mut Vec<u8>,
@@ -218,7 +219,9 @@ fn put_behind(text: &mut Vec<u8>, start: usize, other: &[u8]) -> Result<(), Allo
     put_over(text, len, separator, other)
 }
 
-/// Does what [`push_next`] does, without its look at the first bytes.
+/// Pushes `other` onto the path `text[start..]` by reading it, and returns what is known then.
+///
+/// That and `known` are as in [`push_next`]. If allocation fails, `text` is unchanged.
 fn push_read(
     text: &mut Vec<u8>,
     start: usize,
@@ -411,9 +414,11 @@ fn merge_in_place(
     Ok(())
 }
 
-/// Returns `base`, which has a prefix, spelled, once the components of `other`, which has none, are
-/// merged into it: a root leaves its prefix alone and a root, `..` removes its last component if
-/// that is a name, and `.` does nothing. What else `base` has stays, `.` and `..` too.
+/// Returns `base` spelled anew, with the components of `other` merged into its own.
+///
+/// `base` has a prefix, and `other` has none. A root in `other` takes away all of `base` but the
+/// prefix, and puts a root there; `..` removes the last component if that is a name; `.` does
+/// nothing. What else `base` has stays, `.` and `..` too.
 fn spelled_anew(alloc: Global, base: &[u8], other: &[u8]) -> Result<Vec<u8>, AllocError>
     requires own { has_prefix (kinds (parts_of windows base.now)) ≡ true }
     requires no_prefix { has_prefix (kinds (parts_of windows other.now)) ≡ false }
@@ -480,8 +485,9 @@ fn merge_path(
     Ok(parted)
 }
 
-/// Returns the names that a merge of `path`, which has no prefix, appends, if `path` holds nothing
-/// but names, a `.` in front and a separator at its end. `None` leaves it open.
+/// Returns the names that a merge of `path` appends, if `path` holds nothing but names.
+///
+/// It may have a `.` in front and a separator at its end, and has no prefix. `None` leaves it open.
 #[inline(always)]
 fn names_alone(path: &[u8]) -> Option<&[u8]>
     requires { has_prefix (kinds (parts_of windows path.now)) ≡ false }
@@ -603,8 +609,9 @@ fn merge_piece(
     Ok(parted)
 }
 
-/// Appends a component to those in `text[head..]` after a prefix: after a `\`, or without one if
-/// only a root is there.
+/// Appends `component` to the components in `text[head..]`, with a `\` before it.
+///
+/// If a root alone is there, no `\` is put between. The prefix ends at `head`.
 #[inline(always)]
 fn put_component(text: &mut Vec<u8>, head: usize, component: &[u8]) -> Result<(), AllocError>
     requires { head ≤ length text.old.items }
@@ -625,8 +632,10 @@ fn put_component(text: &mut Vec<u8>, head: usize, component: &[u8]) -> Result<()
     text.extend_from_slice(component)
 }
 
-/// Returns how many bytes `..` leaves of the components `text` after a prefix. `parted` tells
-/// whether they are parted from it.
+/// Returns the length of `text`, the components after a prefix, once `..` has removed a name.
+///
+/// It is the whole length if the last component is no name. `parted` says whether the components
+/// are parted from the prefix.
 fn len_without_name(text: &[u8], parted: bool) -> usize
     ensures within { result ≤ length text.now }
     ensures left { (ps : List Part) → Stands parted ps text.now

@@ -1,4 +1,4 @@
-//! Paths of verbatim drives, lent without their `\\?\`.
+//! Paths of verbatim drives, borrowed without their `\\?\`.
 
 ghost use Rattle.std.specs.Prelude.{◌≡◌, ◌&&◌};
 ghost use Rattle.std.specs.List.{list_all};
