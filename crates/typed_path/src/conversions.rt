@@ -43,9 +43,10 @@ impl<'a, T: Encoding> Path<'a, T> {
         Ok(PathBuf::from_vec(text))
     }
 
-    /// Returns the path in the encoding `U`, also if that has the label of this encoding: its
-    /// components put one by one onto the empty path, each name and each drive `C:` by a checked
-    /// push, all else by a plain one.
+    /// Returns the path in the encoding `U`, unless a name or a drive `C:` of it is refused.
+    ///
+    /// Its components are put one by one onto the empty path, each name and each drive by a checked
+    /// push, all else by a plain one, even if `U` has the label of this encoding.
     ///
     /// # Errors
     ///
@@ -79,8 +80,11 @@ impl<'a, T: Encoding> Path<'a, T> {
         self.with_encoding::<UnixEncoding>(alloc)
     }
 
-    /// Returns the path as on Unix, with each name and each drive `C:` put by a checked push, as
-    /// [`Path::with_encoding_checked`] does.
+    /// Returns the path as on Unix, unless a name or a drive `C:` of it is refused.
+    ///
+    /// # Errors
+    ///
+    /// Those of [`Path::with_encoding_checked`].
     pub fn with_unix_encoding_checked(self, alloc: Global) -> Result<UnixPathBuf, PathError>
         ensures ok { IfOk result
             (λ p. converted_checked T.dialect unix (path_bytes self.entry) ≡ Ok p.bytes) }
@@ -104,8 +108,11 @@ impl<'a, T: Encoding> Path<'a, T> {
         self.with_encoding::<WindowsEncoding>(alloc)
     }
 
-    /// Returns the path as on Windows, with each name and each drive `C:` put by a checked push, as
-    /// [`Path::with_encoding_checked`] does.
+    /// Returns the path as on Windows, unless a name or a drive `C:` of it is refused.
+    ///
+    /// # Errors
+    ///
+    /// Those of [`Path::with_encoding_checked`].
     pub fn with_windows_encoding_checked(self, alloc: Global) -> Result<WindowsPathBuf, PathError>
         ensures ok { IfOk result
             (λ p. converted_checked T.dialect windows (path_bytes self.entry) ≡ Ok p.bytes) }
@@ -130,8 +137,11 @@ impl<'a, T: Encoding> Path<'a, T> {
         self.with_encoding::<PlatformEncoding>(alloc)
     }
 
-    /// Returns the path as on the machine, with each name and each drive `C:` put by a checked
-    /// push, as [`Path::with_encoding_checked`] does.
+    /// Returns the path as on the machine, unless a name or a drive `C:` of it is refused.
+    ///
+    /// # Errors
+    ///
+    /// Those of [`Path::with_encoding_checked`].
     pub fn with_platform_encoding_checked(self, alloc: Global) -> Result<PlatformPathBuf, PathError>
         ensures ok { IfOk result
             (λ p. converted_checked T.dialect platform (path_bytes self.entry) ≡ Ok p.bytes) }
@@ -165,9 +175,11 @@ impl<'a, T: Encoding> Path<'a, T> {
         self.absolutize_from(alloc, directory)
     }
 
-    /// As [`Path::absolutize`], from a directory of any encoding.
+    /// Returns the normal path of this path if it is absolute, else that of `directory`, written in
+    /// this path's encoding, with this path pushed onto it.
     ///
-    /// Of the Windows path `a\..\b` it is `C:\work\b`, from `C:\work`.
+    /// The directory is of any encoding: of the Windows path `a\..\b` it is `C:\work\b`, from
+    /// `C:\work`.
     ///
     /// # Errors
     ///
@@ -247,8 +259,9 @@ fn separator_of<U: Encoding>() -> u8
     }
 }
 
-/// Returns the bytes that `path` becomes in the encoding `U` once each `/` and `\` in them is
-/// replaced by the separator of `U`. `None` leaves it open.
+/// Returns bytes that need only have their separators replaced to be `path` in the encoding `U`.
+///
+/// Each `/` and `\` in them becomes the separator of `U`. `None` leaves it open.
 #[inline(always)]
 fn turned<T: Encoding, U: Encoding>(path: &[u8]) -> Option<&[u8]>
     ensures { IfSome result (λ text. CrossesTurned T.dialect U.dialect path.now text.now) }
@@ -280,8 +293,9 @@ fn stands_behind_drive(path: &[u8]) -> bool {
 /// The length in bytes from which on a path is searched before it is converted.
 const SHORT: usize = 3;
 
-/// Returns [`turned`] of a Unix path without `\`, which would separate on Windows, and without `:`,
-/// which may mark a drive. `None` leaves it open.
+/// Returns what [`turned`] does from Unix to Windows, if `path` has neither `\` nor `:`.
+///
+/// A `\` would separate on Windows, and a `:` may mark a drive. `None` leaves it open.
 fn turned_for_windows(path: &[u8]) -> Option<&[u8]>
     ensures { IfSome result (λ text. CrossesTurned unix windows path.now text.now) }
 {
@@ -292,8 +306,10 @@ fn turned_for_windows(path: &[u8]) -> Option<&[u8]>
     None
 }
 
-/// Returns [`turned`] of a Windows path without a prefix; or with one and a root after it, which
-/// replaces what was pushed for the prefix; or of one that is only a prefix. `None` leaves it open.
+/// Returns what [`turned`] does from Windows to Unix. `None` leaves it open.
+///
+/// It tells of paths without a prefix; of those with one and a root after it, which replaces what
+/// was pushed for the prefix; and of those that are only a prefix.
 #[inline(always)]
 fn turned_for_unix(path: &[u8]) -> Option<&[u8]>
     ensures { IfSome result (λ text. CrossesTurned windows unix path.now text.now) }
@@ -340,8 +356,10 @@ fn is_rooted(path: &[u8], behind: &[u8]) -> bool
         && (!Separators::of_windows(path).is_verbatim() || is_free_of((b'/', b'/'), behind))
 }
 
-/// Pushes the components of `path`, as they are written in the encoding `U`, onto the empty path at
-/// the end of `text`, which has `start` bytes. If allocation fails, some may stay pushed.
+/// Pushes the components of `path` one by one onto the empty path at the end of `text`.
+///
+/// They are pushed as they are written in the encoding `U`. `text` has `start` bytes. If allocation
+/// fails, some may stay pushed.
 fn push_each<T: Encoding, U: Encoding>(
     text: &mut Vec<u8>,
     start: usize,
@@ -368,9 +386,10 @@ fn push_each<T: Encoding, U: Encoding>(
     Ok(())
 }
 
-/// Pushes the components of `path`, as they are written in the encoding `U`, onto the empty path at
-/// the end of `text`, which has `start` bytes; names and drives `C:` by checked pushes. Ends at the
-/// first that is refused; what was pushed before stays then, and if allocation fails.
+/// Appends `path`, converted from the encoding `T` to `U` with checks, to `text`.
+///
+/// It is converted as [`Path::with_encoding_checked`] does. `text` has `start` bytes. If a
+/// component is refused or allocation fails, a part of the result may stay.
 pub fn convert_checked<T: Encoding, U: Encoding>(
     text: &mut Vec<u8>,
     start: usize,
@@ -391,8 +410,9 @@ pub fn convert_checked<T: Encoding, U: Encoding>(
     push_each_checked::<T, U>(text, start, path)
 }
 
-/// Whether searches tell that `path` is of the other dialect, and that none of its components is
-/// refused on `U`. `false` leaves it open.
+/// Whether `T` and `U` differ in dialect, and searches tell that no component of `path` is refused.
+///
+/// `false` leaves it open.
 #[inline(always)]
 fn is_unrefused<T: Encoding, U: Encoding>(path: &[u8]) -> bool
     ensures { IsTrue result → (same_dialect T.dialect U.dialect ≡ false)
@@ -417,7 +437,10 @@ fn is_unrefused<T: Encoding, U: Encoding>(path: &[u8]) -> bool
 /// Windows with checks.
 const SHORTEST_LOOKED_AT: usize = 8;
 
-/// Like [`convert_checked`], component by component.
+/// Checks the components of `path` and pushes them one by one, up to the first that is refused.
+///
+/// They are checked and pushed as [`push_piece_checked`] does, onto the empty path at the end of
+/// `text`, which has `start` bytes. Some may stay pushed if one is refused or allocation fails.
 fn push_each_checked<T: Encoding, U: Encoding>(
     text: &mut Vec<u8>,
     start: usize,
@@ -443,9 +466,10 @@ fn push_each_checked<T: Encoding, U: Encoding>(
     Ok(())
 }
 
-/// Checks `piece` as [`check_component`] does, and pushes it, as it is written in the encoding `U`,
-/// onto the path `text[start..]`, of which `known` is known. Returns what is known of the result,
-/// as [`Encoding::push_next`] does.
+/// Checks `piece` as [`check_component`] does, and pushes it onto the path `text[start..]`.
+///
+/// It is pushed as it is written in the encoding `U`. `known` is what is known of the path. Returns
+/// what is known of the result, as [`Encoding::push_next`] does.
 #[inline(always)]
 fn push_piece_checked<U: Encoding>(
     text: &mut Vec<u8>,

@@ -516,7 +516,10 @@ impl<'a> TypedPath<'a> {
         typed_result!(self, path => path.absolutize(alloc, directory))
     }
 
-    /// As [`TypedPath::absolutize`], from a directory of either dialect.
+    /// Returns the normal path of this path if it is absolute, else that of `directory`, written in
+    /// this path's dialect, with this path pushed onto it.
+    ///
+    /// The directory is of either dialect.
     ///
     /// # Errors
     ///
@@ -549,8 +552,14 @@ impl<'a> TypedPath<'a> {
         Ok(Typed::Unix(each!(self, path => path.with_unix_encoding(alloc))?))
     }
 
-    /// Returns the path as on Unix, also if it is a Unix path: with each name and each drive `C:`
-    /// put by a checked push, all else by a plain one, as [`Path::with_encoding_checked`] does.
+    /// Returns the path as on Unix, unless a name or a drive `C:` of it is refused.
+    ///
+    /// Each name and each drive is put by a checked push, all else by a plain one, even if it is a
+    /// Unix path.
+    ///
+    /// # Errors
+    ///
+    /// Those of [`Path::with_encoding_checked`].
     pub fn with_unix_encoding_checked(self, alloc: Global) -> Result<TypedPathBuf, PathError>
         ensures dialect { IfOk result (λ p. typed_dialect p ≡ unix) }
         ensures converted { ConvertsChecked (typed_dialect self.entry) unix owned_bytes
@@ -569,9 +578,14 @@ impl<'a> TypedPath<'a> {
         Ok(Typed::Windows(each!(self, path => path.with_windows_encoding(alloc))?))
     }
 
-    /// Returns the path as on Windows, also if it is a Windows path: with each name and each drive
-    /// `C:` put by a checked push, all else by a plain one, as [`Path::with_encoding_checked`]
-    /// does. So the Windows path `C:\a` is refused, and no component `..` is.
+    /// Returns the path as on Windows, unless a name or a drive `C:` of it is refused.
+    ///
+    /// Each name and each drive is put by a checked push, all else by a plain one, even if it is a
+    /// Windows path. So the Windows path `C:\a` is refused, and no component `..` is.
+    ///
+    /// # Errors
+    ///
+    /// Those of [`Path::with_encoding_checked`].
     pub fn with_windows_encoding_checked(self, alloc: Global) -> Result<TypedPathBuf, PathError>
         ensures dialect { IfOk result (λ p. typed_dialect p ≡ windows) }
         ensures converted { ConvertsChecked (typed_dialect self.entry) windows owned_bytes

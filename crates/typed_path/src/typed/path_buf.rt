@@ -640,7 +640,7 @@ impl TypedPathBuf {
         self.to_path().with_unix_encoding(alloc)
     }
 
-    /// Returns the path as on Unix, also if it is a Unix path. See
+    /// Returns the path as on Unix, unless a name or a drive `C:` of it is refused. See
     /// [`TypedPath::with_unix_encoding_checked`].
     pub fn with_unix_encoding_checked(&self, alloc: Global) -> Result<TypedPathBuf, PathError>
         ensures dialect { IfOk result (λ p. typed_dialect p ≡ unix) }
@@ -659,7 +659,7 @@ impl TypedPathBuf {
         self.to_path().with_windows_encoding(alloc)
     }
 
-    /// Returns the path as on Windows, also if it is a Windows path. See
+    /// Returns the path as on Windows, unless a name or a drive `C:` of it is refused. See
     /// [`TypedPath::with_windows_encoding_checked`].
     pub fn with_windows_encoding_checked(&self, alloc: Global) -> Result<TypedPathBuf, PathError>
         ensures dialect { IfOk result (λ p. typed_dialect p ≡ windows) }

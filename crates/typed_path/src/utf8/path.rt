@@ -101,8 +101,7 @@ impl<'a, T: Utf8Encoding> Utf8Path<'a, T> {
         Ok(Utf8Path::new(str::from_utf8(path.as_bytes())?))
     }
 
-    /// Returns the path of text that has the bytes of `path`. They are known to be UTF-8, and not
-    /// checked again.
+    /// Returns the path of text with the bytes of `path`, which are UTF-8 and not checked again.
     pub fn from_bytes_path_unchecked(path: Path<'a, T::Bytes>) -> Utf8Path<'a, T>
         requires { is_utf8 (path_bytes path) ≡ true }
         ensures { utf8_bytes result ≡ path_bytes path.entry }
@@ -566,9 +565,10 @@ impl<'a, T: Utf8Encoding> Utf8Path<'a, T> {
         owned!(self.as_bytes_path().with_encoding::<U::Bytes>(alloc))
     }
 
-    /// Returns the path in the encoding `U`, also if that has the label of this encoding: its
-    /// components put one by one onto the empty path, each name and each drive `C:` by a checked
-    /// push, all else by a plain one.
+    /// Returns the path in the encoding `U`, unless a name or a drive `C:` of it is refused.
+    ///
+    /// Its components are put one by one onto the empty path, each name and each drive by a checked
+    /// push, all else by a plain one, even if `U` has the label of this encoding.
     ///
     /// # Errors
     ///
@@ -601,8 +601,8 @@ impl<'a, T: Utf8Encoding> Utf8Path<'a, T> {
         self.with_encoding::<Utf8UnixEncoding>(alloc)
     }
 
-    /// Returns the path as on Unix, with each name and each drive `C:` put by a checked push, as
-    /// [`Utf8Path::with_encoding_checked`] does.
+    /// Returns the path as on Unix, unless a name or a drive `C:` of it is refused, as
+    /// [`Utf8Path::with_encoding_checked`] says.
     pub fn with_unix_encoding_checked(self, alloc: Global) -> Result<Utf8UnixPathBuf, PathError>
         ensures { ConvertsChecked T.Bytes.dialect unix
             (λ p. p.bytes) (utf8_bytes self.entry) result }
@@ -625,8 +625,8 @@ impl<'a, T: Utf8Encoding> Utf8Path<'a, T> {
         self.with_encoding::<Utf8WindowsEncoding>(alloc)
     }
 
-    /// Returns the path as on Windows, with each name and each drive `C:` put by a checked push, as
-    /// [`Utf8Path::with_encoding_checked`] does.
+    /// Returns the path as on Windows, unless a name or a drive `C:` of it is refused, as
+    /// [`Utf8Path::with_encoding_checked`] says.
     pub fn with_windows_encoding_checked(
         self,
         alloc: Global,
@@ -652,8 +652,8 @@ impl<'a, T: Utf8Encoding> Utf8Path<'a, T> {
         self.with_encoding::<Utf8PlatformEncoding>(alloc)
     }
 
-    /// Returns the path as on the machine, with each name and each drive `C:` put by a checked
-    /// push, as [`Utf8Path::with_encoding_checked`] does.
+    /// Returns the path as on the machine, unless a name or a drive `C:` of it is refused, as
+    /// [`Utf8Path::with_encoding_checked`] says.
     pub fn with_platform_encoding_checked(
         self,
         alloc: Global,
@@ -685,7 +685,7 @@ impl<'a, T: Utf8Encoding> Utf8Path<'a, T> {
         owned!(absolute)
     }
 
-    /// As [`Utf8Path::absolutize`], from a directory of any encoding, and refused as that is.
+    /// Returns what [`Utf8Path::absolutize`] returns, but from a directory of any encoding.
     pub fn absolutize_from<U: Utf8Encoding>(
         self,
         alloc: Global,
