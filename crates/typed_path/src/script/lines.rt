@@ -1,5 +1,5 @@
-//! One line of commands at the front of an input, and its reply: fields with a tab between, and a
-//! line feed. If allocation fails, `replies` may keep a part of the reply.
+//! A line with a command, at the front of an input, and the reply to it: either is fields with a
+//! tab between, and a line feed. If allocation fails, `replies` may keep a part of the reply.
 
 ghost use Rattle.std.specs.Prelude.{◌≡◌, [], ◌∷◌, ◌++◌, Some, take, length, OnOk, option_map, ◌≢◌, ℕ, List, codes, MatchOption, IfOk, IfSome, IfNone};
 ghost use Rattle.typed_path.specs.components.{parts_of};

@@ -219,8 +219,10 @@ fn are_separators(first: u8, second: u8) -> bool
     Separators::Either.contains(first) && Separators::Either.contains(second)
 }
 
-/// Returns what is left of `path` after `base`, if it begins with the bytes of `base`, both have
-/// the same prefix or none, and no segment spans the end of `base`. `None` leaves it open.
+/// Returns what is left of `path` after `base`, if their bytes tell; `None` leaves it open.
+///
+/// They tell if `path` begins with those of `base`, both have the same prefix or none, `base` goes
+/// on after it, and no segment spans the end of `base`.
 fn behind<'a>(path: &'a [u8], base: &[u8]) -> Option<&'a [u8]>
     ensures { IfSome result (λ rest. stripped windows path.now base.now ≡ Some rest.now) }
 {

@@ -154,9 +154,10 @@ fn put_rows(text: &mut Vec<u8>, head: RowHead<'_>) -> Result<bool, AllocError>
 /// The length in bytes from which on a path is searched as a whole before its segments are cut.
 const ONE_BLOCK_AND_TWO: usize = 34;
 
-/// Appends the names that `path` resolves to, each with `\` after it, to a head of `len` bytes,
-/// which is all of `text`. Returns `false` if a name begins with a drive `C:`; what was appended is
-/// unspecified then.
+/// Appends the names that `path` resolves to, each with `\` after it, and returns `true`.
+///
+/// If a segment begins with a drive `C:`, it returns `false`, and what was appended is unspecified.
+/// The head before the names has `len` bytes, and is all of `text`.
 fn put_segments(text: &mut Vec<u8>, len: usize, path: &[u8]) -> Result<bool, AllocError>
     requires { len ≤ length text.old.items }
     ensures ok { IfOk result (λ plain. IsTrue plain → (head : List ℕ) → length head ≡ len
@@ -286,8 +287,10 @@ fn put_segment(
     Ok(true)
 }
 
-/// Appends the normal path of `path` to `text`, which has `start` bytes: pushes the components that
-/// it resolves to, one by one, onto the empty path. If allocation fails, a part of it may stay.
+/// Appends the normal path of `path` to `text`, by pushes onto the empty path at its end.
+///
+/// It pushes the components that `path` resolves to, one by one. `text` has `start` bytes. If
+/// allocation fails, a part of the normal path may stay.
 #[cold]
 fn push_resolved(text: &mut Vec<u8>, start: usize, path: &[u8]) -> Result<(), AllocError>
     requires { length text.old.items ≡ start }
@@ -307,8 +310,9 @@ fn push_resolved(text: &mut Vec<u8>, start: usize, path: &[u8]) -> Result<(), Al
 /// The number of names for which memory is allocated first.
 const NAMES: usize = 16;
 
-/// Pushes the prefix and the root of `path` onto the empty path at the end of `text`, which has
-/// `start` bytes, and returns the names that no `..` cancels.
+/// Pushes the prefix and the root of `path` onto the empty path at the end of `text`.
+///
+/// `text` has `start` bytes. Returns the names of `path` that no `..` cancels.
 fn push_heads<'a>(
     text: &mut Vec<u8>,
     start: usize,

@@ -189,8 +189,10 @@ fn is_plain(path: &[u8]) -> bool
     }
 }
 
-/// Whether the first bytes tell that `path` has no verbatim prefix, and gets none if a path that
-/// [`is_plain`] is appended, as `/` and `\\` would from `?\x`. `false` leaves it open.
+/// Whether the first bytes tell that `path` neither has nor gets a verbatim prefix.
+///
+/// It may get one if a path that [`is_plain`] is appended, as `/` and `\\` do with `?\x`. `false`
+/// leaves it open.
 #[inline(always)]
 fn stays_unmarked(path: &[u8]) -> bool
     ensures { IsTrue result → has_any_verbatim_prefix (kinds (parts_of windows path.now)) ≡ false }
@@ -339,9 +341,11 @@ fn is_component(separators: Separators, piece: &[u8]) -> bool
     }
 }
 
-/// Merges `other`, which has no prefix, into the path `text[start..kept]`, which has a verbatim
-/// one, and cuts off what follows `kept`. If allocation fails, `text` is unchanged. `known` is what
-/// [`push_next`] returned for the path, or `None`; if it is wrong, the result is unspecified.
+/// Merges `other` into the path `text[start..kept]`, and cuts off what follows `kept`.
+///
+/// `other` has no prefix, and the path has a verbatim one. If allocation fails, `text` is
+/// unchanged. `known` is what [`push_next`] returned for the path, or `None`; if it is wrong, the
+/// result is unspecified.
 fn merge_at(
     text: &mut Vec<u8>,
     start: usize,
@@ -385,8 +389,9 @@ fn known_head(base: &[u8], known: Option<usize>) -> Option<usize>
     }
 }
 
-/// Merges `other`, which has no prefix, into the path `text[start..kept]`, which is spelled and has
-/// a prefix of `head` bytes, and cuts off what follows `kept`. If allocation fails, `text` is
+/// Merges `other` into the spelled path `text[start..kept]`, and cuts off what follows `kept`.
+///
+/// `other` has no prefix, and that of the path has `head` bytes. If allocation fails, `text` is
 /// unchanged.
 fn merge_in_place(
     text: &mut Vec<u8>,
