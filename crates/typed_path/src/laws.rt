@@ -76,7 +76,7 @@ pub fn normal_stays_normal(path: &[u8])
     ensures { StaysNormal path.now }
 {}
 
-/// Two Unix paths have the same normal path exactly if they resolve to the same kinds.
+/// Two Unix paths have the same normal path exactly if they resolve to equal components.
 #[tactic(auto, using(crate::proofs::lemmas::promises::UnixContained::is_canonical))]
 pub fn normal_is_canonical(path: &[u8], other: &[u8])
     ensures { IsCanonical path.now other.now }
@@ -263,8 +263,8 @@ pub fn ancestors_end_at_the_top(path: &[u8])
         → parent_of d above ≡ None }
 {}
 
-/// A path ends in a name, and its parent is read as a list, exactly if the path is read as that
-/// list and one name after it.
+/// A path ends in a name, and its parent has a given list of components, exactly if the components
+/// of the path are that list and one name after it.
 #[tactic(auto, using(crate::proofs::lemmas::queries::Parents::child_is_one_below))]
 pub fn children_are_one_name_below(path: &[u8])
     ghost d: { Dialect }
@@ -329,7 +329,8 @@ pub fn absolutized_is_short(directory: &[u8], path: &[u8])
         (λ text. length text ≤ length directory.now + length path.now + 3) }
 {}
 
-/// So has one made absolute from a directory of either dialect.
+/// A path made absolute from a directory of either dialect is at most three bytes longer than the
+/// directory and the path together.
 pub fn absolutized_from_is_short(directory: &[u8], path: &[u8])
     ghost d: { Dialect }
     ensures { (e : Dialect) → IfSome (absolute_under d e directory.now path.now)
@@ -344,7 +345,7 @@ pub fn strip_joins(path: &[u8], base: &[u8])
 {}
 
 /// A Unix path is within a base exactly if, from every absolute directory, it lies at the place of
-/// the base or names below it.
+/// the base or below it.
 #[tactic(auto, using(crate::proofs::lemmas::promises::UnixWithin::is_exact))]
 pub fn within_is_exact(path: &[u8], base: &[u8])
     ensures { IsWithinExactly base.now path.now }
@@ -381,7 +382,7 @@ pub fn joined_twice_is_within(base: &[u8], first: &[u8], second: &[u8])
 {}
 
 /// In each dialect, from every absolute directory that keeps its prefix, a path that is within a
-/// base lies at the place of the base or names below it.
+/// base lies at the place of the base or below it.
 #[tactic(auto, using(crate::proofs::lemmas::promises::VerbatimWithin::leads_below))]
 pub fn within_leads_below(directory: &[u8], path: &[u8], base: &[u8])
     ghost d: { Dialect }
@@ -440,8 +441,9 @@ pub fn relative_leads_back(path: &[u8], base: &[u8])
     ensures { LeadsBack unix path.now base.now }
 {}
 
-/// `relative_to` finds no path exactly if the two begin differently, the base leads higher, or no
-/// path without a prefix is read with the names that are left.
+/// `relative_to` finds no path exactly if the prefixes differ, or only one of the two is anchored;
+/// if the base leads higher; or if the names that are left are the kept names of no path without a
+/// prefix.
 pub fn relative_has_none(path: &[u8], base: &[u8])
     ghost d: { Dialect }
     ensures { HasNone d path.now base.now }

@@ -29,8 +29,8 @@ pub fn normal_stays_stable(path: &[u8])
     ensures { StaysStable path.now }
 {}
 
-/// A Windows path with a prefix that is within a base lies, from every directory, at the place of
-/// the base or names below it.
+/// A Windows path that has a prefix and is within a base lies, from every directory, at the place
+/// of the base or below it.
 #[tactic(auto, using(crate::proofs::lemmas::promises::WindowsWithin::prefixed_below))]
 pub fn prefixed_within_leads_below(directory: &[u8], path: &[u8], base: &[u8])
     ensures { has_prefix (kinds (parts_of windows path.now)) ≡ true
