@@ -127,5 +127,5 @@ pub type NativePath<'a> = UnixPath<'a>;
 /// An owned path of the machine's own kind.
 pub type NativePathBuf = UnixPathBuf;
 
-/// A component of such a path.
+/// A component of a path of the machine's own kind.
 pub type NativeComponent<'a> = UnixComponent<'a>;

@@ -1,5 +1,5 @@
-//! What callers across a boundary get of a path in numbers: the steps of a reading that they keep
-//! as three numbers, where a pushed path goes, and where the names of a prefix stand. No call
+//! What a path tells in numbers, for callers in other languages: the steps of a reading that they
+//! keep as three numbers, where a pushed path goes, and where the names of a prefix stand. No call
 //! allocates.
 
 ghost use Rattle.std.specs.Prelude.{◌≡◌, ◌≤◌, length, drop, option_map, is_ok, is_some, not, IfSome, IfOk, OnOk, OnErr, IsSome, IsNone, MatchOption};

@@ -44,7 +44,7 @@ macro_rules! typed {
     };
 }
 
-/// Does what `typed` does, for an answer that is an `Option`.
+/// Evaluates `answer`, an `Option`, as `typed` does, and wraps the value in it, if any.
 macro_rules! typed_option {
     ($typed:expr, $held:ident => $answer:expr) => {
         match $typed {
@@ -60,7 +60,7 @@ macro_rules! typed_option {
     };
 }
 
-/// Does what `typed` does, for an answer that is a `Result`.
+/// Evaluates `answer`, a `Result`, as `typed` does, and wraps the value in it, if it is `Ok`.
 macro_rules! typed_result {
     ($typed:expr, $held:ident => $answer:expr) => {
         match $typed {
@@ -76,7 +76,7 @@ macro_rules! typed_result {
     };
 }
 
-/// Does what `typed` does, for an answer that is an `Option` in a `Result`.
+/// Evaluates `answer`, an `Option` in a `Result`, as `typed` does, and wraps the value in it.
 macro_rules! typed_option_result {
     ($typed:expr, $held:ident => $answer:expr) => {
         match $typed {

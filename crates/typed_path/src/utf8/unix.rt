@@ -282,5 +282,5 @@ pub type Utf8NativePath<'a> = Utf8UnixPath<'a>;
 /// An owned path of text of the machine's own kind.
 pub type Utf8NativePathBuf = Utf8UnixPathBuf;
 
-/// A component of such a path.
+/// A component of a path of text of the machine's own kind.
 pub type Utf8NativeComponent<'a> = Utf8UnixComponent<'a>;
