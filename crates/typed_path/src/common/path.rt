@@ -259,7 +259,7 @@ impl<'a, T: Encoding> Path<'a, T> {
     }
 
     /// Whether the last byte is a separator of the path, as that of `a/`, and of `/` alone. On
-    /// Windows `/` is none if the path begins with `\\?\`.
+    /// Windows `/` is no separator if the path begins with `\\?\`.
     ///
     /// On Windows that of `a\` is one too, and that of `\\?\C:\a/` is none.
     pub fn has_trailing_separator(self) -> bool

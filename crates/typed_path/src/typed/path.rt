@@ -256,7 +256,7 @@ impl<'a> TypedPath<'a> {
     }
 
     /// Whether the last byte is a separator of the path, as that of `a/`, and of `/` alone. On
-    /// Windows `/` is none if the path begins with `\\?\`.
+    /// Windows `/` is no separator if the path begins with `\\?\`.
     pub fn has_trailing_separator(self) -> bool
         ensures { result ≡ has_trailing_separator (typed_dialect self.entry) (typed_bytes self.entry) }
     {

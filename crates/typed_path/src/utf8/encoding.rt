@@ -159,7 +159,9 @@ pub fn text_of(bytes: &[u8]) -> &str
     unsafe { str::from_utf8_unchecked(bytes) }
 }
 
-/// Returns the bytes as text, `None` if there are none. They have to be UTF-8, and are not checked.
+/// Returns the bytes as text, and `None` for `None`.
+///
+/// They have to be UTF-8, and are not checked.
 #[inline(always)]
 pub fn text_of_option(bytes: Option<&[u8]>) -> Option<&str>
     requires { is_text_option (option_copied bytes) ≡ true }

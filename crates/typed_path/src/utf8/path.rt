@@ -118,7 +118,7 @@ impl<'a, T: Utf8Encoding> Utf8Path<'a, T> {
         Utf8Path { path }
     }
 
-    /// Returns the path of text with the bytes of `path`, which are UTF-8; `None` if there is none.
+    /// Returns the path of text with the bytes of `path`, which are UTF-8, and `None` for `None`.
     #[inline(always)]
     pub(super) fn of_option(path: Option<Path<'a, T::Bytes>>) -> Option<Utf8Path<'a, T>>
         requires { is_text_option (option_map path_bytes path) ≡ true }
@@ -299,7 +299,7 @@ impl<'a, T: Utf8Encoding> Utf8Path<'a, T> {
     }
 
     /// Whether the last character is a separator of the path, as that of `a/`, and of `/` alone. On
-    /// Windows `/` is none if the path begins with `\\?\`.
+    /// Windows `/` is no separator if the path begins with `\\?\`.
     pub fn has_trailing_separator(self) -> bool
         ensures { result ≡ has_trailing_separator T.Bytes.dialect (utf8_bytes self.entry) }
     {

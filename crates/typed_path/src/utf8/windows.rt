@@ -225,8 +225,9 @@ impl<'a> Utf8WindowsPrefixComponent<'a> {
         }
     }
 
-    /// Returns a prefix component of bytes, which is known to be UTF-8, as one of text; `None` if
-    /// there is none.
+    /// Returns a prefix component of bytes as one of text, and `None` for `None`.
+    ///
+    /// It is known to be UTF-8, and not checked again.
     pub(super) fn of_option(component: Option<WindowsPrefixComponent<'a>>) -> Option<Self>
         requires { is_text_part_option (option_map prefix_component_part component) ≡ true }
         ensures { option_map text_prefix_part result
@@ -344,7 +345,7 @@ impl<'a> Utf8WindowsComponent<'a> {
         matches!(self, Self::Prefix(_))
     }
 
-    /// Returns the prefix with its text, or `None` if the component is none.
+    /// Returns the prefix with its text, or `None` if the component is no prefix.
     pub fn prefix(self) -> Option<Utf8WindowsPrefixComponent<'a>>
         ensures { option_map text_prefix_part result
             ≡ prefix_part_in (text_windows_part self.entry) }
@@ -355,7 +356,7 @@ impl<'a> Utf8WindowsComponent<'a> {
         }
     }
 
-    /// Returns which prefix the component is, or `None` if it is none.
+    /// Returns which prefix the component is, or `None` if it is no prefix.
     pub fn prefix_kind(self) -> Option<Utf8WindowsPrefix<'a>>
         ensures { option_map text_prefix result ≡ prefix_in (text_windows_part self.entry).kind }
     {
@@ -502,14 +503,14 @@ impl<'a> Utf8Reading<'a, Utf8WindowsEncoding, Utf8WindowsComponent<'a>> {
         Utf8Path::new(self.as_str())
     }
 
-    /// Returns the prefix with its text, or `None` if the first component left is none.
+    /// Returns the prefix with its text, or `None` if the first component left is no prefix.
     pub fn prefix(self) -> Option<Utf8WindowsPrefixComponent<'a>>
         ensures { option_map text_prefix_part result ≡ prefix_among (reading_parts self.entry) }
     {
         Utf8WindowsPrefixComponent::of_option(self.bytes().prefix())
     }
 
-    /// Returns which prefix the first component left is, or `None` if it is none.
+    /// Returns which prefix the first component left is, or `None` if it is no prefix.
     pub fn prefix_kind(self) -> Option<Utf8WindowsPrefix<'a>>
         ensures { option_map text_prefix result ≡ first_prefix (kinds (reading_parts self.entry)) }
     {

@@ -234,7 +234,7 @@ impl<'a> WindowsComponent<'a> {
         matches!(self, WindowsComponent::Prefix(_))
     }
 
-    /// Returns the prefix with its bytes, or `None` if the component is none.
+    /// Returns the prefix with its bytes, or `None` if the component is no prefix.
     pub fn prefix(self) -> Option<WindowsPrefixComponent<'a>>
         ensures { option_map prefix_component_part result
             ≡ prefix_part_in (windows_part self.entry) }
@@ -245,7 +245,7 @@ impl<'a> WindowsComponent<'a> {
         }
     }
 
-    /// Returns which prefix the component is, or `None` if it is none.
+    /// Returns which prefix the component is, or `None` if it is no prefix.
     pub fn prefix_kind(self) -> Option<WindowsPrefix<'a>>
         ensures { option_map prefix_view result ≡ prefix_in (windows_part self.entry).kind }
     {
@@ -432,7 +432,7 @@ impl<'a> Reading<'a, WindowsEncoding, Values> {
         self.prefix_kind().is_some()
     }
 
-    /// Returns the prefix with its bytes, or `None` if the first component left is none.
+    /// Returns the prefix with its bytes, or `None` if the first component left is no prefix.
     pub fn prefix(self) -> Option<WindowsPrefixComponent<'a>>
         ensures { option_map prefix_component_part result
             ≡ prefix_among (components_parts self.entry) }
@@ -440,7 +440,7 @@ impl<'a> Reading<'a, WindowsEncoding, Values> {
         <Values as ReadAs<'a, WindowsEncoding>>::from_piece(self.cursor().prefix_piece()?).prefix()
     }
 
-    /// Returns which prefix the first component left is, or `None` if it is none.
+    /// Returns which prefix the first component left is, or `None` if it is no prefix.
     pub fn prefix_kind(self) -> Option<WindowsPrefix<'a>>
         ensures { option_map prefix_view result
             ≡ first_prefix (kinds (components_parts self.entry)) }

@@ -230,7 +230,7 @@ impl<'a> Utf8TypedPath<'a> {
     }
 
     /// Whether the last character is a separator of the path, as that of `a/`, and of `/` alone. On
-    /// Windows `/` is none if the path begins with `\\?\`.
+    /// Windows `/` is no separator if the path begins with `\\?\`.
     pub fn has_trailing_separator(self) -> bool
         ensures { result ≡ has_trailing_separator (typed_dialect self.entry) (typed_text self.entry) }
     {
