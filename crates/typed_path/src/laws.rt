@@ -14,7 +14,7 @@ ghost use Rattle.typed_path.specs.changes.{fault, push, with_extension, with_fil
 ghost use Rattle.typed_path.specs.conversions.{converted, converted_checked, absolute_from, absolute_under};
 ghost use Rattle.typed_path.specs.places.{clean_text, is_within, normal_text, relative_text};
 ghost use Rattle.typed_path.specs.promises.{AreCleanAlike, HasCleanForm, LeadAlike, IsWithinExactly, JoinsWithin, KeepsAgain, StaysWithin, LeadsBelow, JoinAppends, StripJoins, ReadsAsResolved, StaysNormal, IsCanonical, HashAlike, CrossesWhereAllowed, CrossesAsItIs, CrossesBack, CrossesToUnix, IsLongest, ShareNothing, ExtendsName, CleanLeadsAlike, HasNone, HasNoneAtAll, HasNoneOnUnix, IsDotAlike, LeadsBack, StaysRelative};
-ghost use Rattle.typed_path.specs.order.{key_words, IsKeyed, IsToldApart, IsSame, is_same, path_cmp, kind_cmp, bytes_cmp, text_unix_words, text_prefix_words, text_kind_words, text_windows_words, text_piece_words};
+ghost use Rattle.typed_path.specs.order.{key_writes, AreFedAlike, IsKeyed, IsToldApart, IsSame, is_same, path_cmp, kind_cmp, bytes_cmp, text_unix_words, text_prefix_words, text_kind_words, text_windows_words, text_piece_words};
 ghost use Rattle.typed_path.specs.views.PieceViews.{kind_view, part_of};
 ghost use Rattle.typed_path.specs.views.UnixViews.{unix_part};
 ghost use Rattle.typed_path.specs.order.Words.{path_words, unix_words, kind_words, piece_words};
@@ -112,12 +112,13 @@ pub fn equal_paths_hash_alike(path: &[u8], other: &[u8])
     ensures { HashAlike d path.now other.now }
 {}
 
-/// Two keys feed a hasher the same words exactly if their paths are equal. If the bytes that two
-/// keys feed, each with any bytes after them, are the same as a whole, the paths are equal, and so
-/// are the bytes after.
+/// Two keys have the same words, and feed a hasher alike, exactly if their paths are equal. If the
+/// bytes that two keys feed, each with any bytes after them, are the same as a whole, the paths are
+/// equal, and so are the bytes after.
 pub fn keys_tell_paths_apart(path: &[u8], other: &[u8])
     ghost d: { Dialect }
     ensures words { IsKeyed d path.now other.now }
+    ensures fed { AreFedAlike d path.now other.now }
     ensures bytes { IsToldApart d path.now other.now }
 {}
 
@@ -131,12 +132,12 @@ pub fn paths_compare_by_components<'a, T: Encoding>(one: Path<'a, T>, other: Pat
         ≡ path_words T.dialect (path_bytes one.entry) }
 {}
 
-/// The keys of paths, borrowed and owned, feed a hasher the words of the components.
+/// The keys of paths, borrowed and owned, feed a hasher the bytes of the words of the components.
 pub fn keys_hash_by_components<'a, T: Encoding>(lent: Key<Path<'a, T>>, owned: &Key<PathBuf<T>>)
     ensures lent { ⟦<Key<Path<'a, T>> as Hash>⟧.hash_input lent.entry
-        ≡ key_words T.dialect (path_bytes (keyed_path lent.entry)) }
+        ≡ key_writes T.dialect (path_bytes (keyed_path lent.entry)) }
     ensures owned { ⟦<Key<PathBuf<T>> as Hash>⟧.hash_input owned.now
-        ≡ key_words T.dialect (keyed_path owned.now).bytes }
+        ≡ key_writes T.dialect (keyed_path owned.now).bytes }
 {}
 
 /// Iterators over texts compare as the paths of their slices left, each read anew.

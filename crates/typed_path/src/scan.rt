@@ -19,11 +19,11 @@ pub use cut::{
 pub use devices::{is_taken_for_device, may_be_device};
 pub use lanes::{
     first_between, first_difference, first_difference_in_lower_case, has_control,
-    has_no_nul_or_dot_pair,
+    has_no_nul_or_dot_pair, lowest, marks_at,
 };
 pub use names::{
-    Leading, before_last_separator, begins_with_long_name, has_long_front, has_no_blank_behind,
-    has_only_names, leading_names, leading_short_names,
+    Leading, before_last_separator, begins_no_name, begins_with_long_name, has_long_front,
+    has_no_blank_behind, has_only_names, leading_names, leading_short_names,
 };
 pub use prefix::{
     Found, WindowsPrefix, after_mark, begins_with_two, byte_behind_two, drive, find_prefix,

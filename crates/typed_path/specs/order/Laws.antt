@@ -1,5 +1,6 @@
 -- The order of paths is total, and what it does not tell apart is the same. The laws of the traits cite it.
-use Rattle.std.proofs.Common.{◌≡◌, ℕ, true, List, [], ◌∷◌, Ordering, Equal, refl}
+use Rattle.std.proofs.Common.{◌≡◌, ℕ, true, List, [], ◌∷◌, Ordering, Equal, refl, ap}
+use Rattle.std.specs.List.{concat}
 use Rattle.std.specs.Ordering.{ordering_then}
 use Rattle.std.specs.Cmp.{IsTotalOrder, Equal-is, on_total}
 use Rattle.std.specs.Cmp.Lexicographic.{slice_cmp, lists_total, nat_list_cmp_total}
@@ -8,6 +9,8 @@ use Rattle.typed_path.specs.components.Dialects.{Dialect}
 use Rattle.typed_path.specs.components.Parts.{verbatim, verbatim_unc, verbatim_disk, device_ns, unc, disk, Kind, prefix, root, current, parent, normal, kinds}
 use Rattle.typed_path.specs.components.Comps.{parts_of}
 use Rattle.typed_path.specs.order.Same.{key, kind_cmp, kinds_cmp, path_cmp, is_same}
+use Rattle.typed_path.specs.order.KeyWords.{kinds_key_words}
+use Rattle.typed_path.specs.order.KeyBytes.{chunked, key_writes}
 
 -- kinds are in a total order
 pub kind_cmp_total : IsTotalOrder kind_cmp
@@ -60,3 +63,7 @@ exact_kinds k l e = key_injective k l (exact_lists exact_bytes (key k) (key l) e
 -- equal texts have equal kinds
 pub same-kinds : (d : Dialect) (t u : List ℕ) → is_same d t u ≡ true → kinds (parts_of d t) ≡ kinds (parts_of d u)
 same-kinds d t u same = exact_lists exact_kinds (kinds (parts_of d t)) (kinds (parts_of d u)) ((Equal-is (path_cmp d t u)).0 same)
+
+-- and are fed alike as keys
+pub same-writes : (d : Dialect) (t u : List ℕ) → is_same d t u ≡ true → key_writes d t ≡ key_writes d u
+same-writes d t u same = ap (λ ks. chunked (concat (kinds_key_words ks))) (same-kinds d t u same)

@@ -7,6 +7,7 @@ ghost use Rattle.typed_path.specs.views.PathViews.{path_bytes};
 ghost use Rattle.typed_path.specs.views.PieceViews.{prefix_view, step_part};
 
 use crate::common::encoding::Encoding;
+use crate::common::key_names::{Names, put_bytes};
 use crate::common::path::Path;
 use crate::scan::{Step, StepKind, WindowsPrefix};
 
@@ -51,7 +52,16 @@ fn put_words<T: Encoding>(path: &[u8], out: &mut [u8]) -> usize
         Some(root) => put_step(out, start, root),
         None => start,
     };
-    'steps: while let Some(step) = body.front() {
+    let mut names = Names::new();
+    'steps: loop {
+        let run = names.take(&mut body);
+        if !run.is_empty() {
+            at = put_bytes(out, at, run);
+            continue;
+        }
+        let Some(step) = body.front() else {
+            break;
+        };
         at = put_step(out, at, step);
     }
     put_bytes(out, at, &[0])
@@ -135,17 +145,4 @@ fn put_count(out: &mut [u8], at: usize, count: usize) -> usize
     }
     let behind = put_bytes(out, at, &[255]);
     put_bytes(out, behind, &count.to_le_bytes())
-}
-
-/// Writes bytes to `out[at..]` if they fit. Returns the index after them, whether they fit or not.
-#[inline(always)]
-fn put_bytes(out: &mut [u8], at: usize, bytes: &[u8]) -> usize
-    requires { at + length bytes.now < 2 ^ 64 }
-    ensures { IsPutFrom at bytes.now out.old out.new result }
-{
-    let end = at + bytes.len();
-    if end <= out.len() {
-        out[at..end].copy_from_slice(bytes);
-    }
-    end
 }

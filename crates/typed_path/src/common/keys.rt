@@ -2,12 +2,15 @@
 //! so no two lists of components feed it alike.
 
 ghost use Rattle.std.specs.Prelude.{◌≡◌, List, ℕ, IsTrue, fold, option_map};
-ghost use Rattle.std.proofs.Common.{ap};
-ghost use Rattle.typed_path.specs.order.{key_words, key_words_before, kind_key_words, kinds_key_words, length_prefixed, length_words, prefix_key_words, same-kinds};
+ghost use Rattle.std.specs.List.{concat};
+ghost use Rattle.typed_path.specs.order.{AreFed, key_writes, key_words_before, kind_key_words, length_prefixed, prefix_key_words, same-writes};
+ghost use Rattle.typed_path.specs.views.KeyViews.{chunk_bytes};
 ghost use Rattle.typed_path.specs.views.PieceViews.{prefix_view, step_part};
 ghost use Rattle.typed_path.specs.views.PathViews.{path_bytes};
 
 use crate::common::encoding::Encoding;
+use crate::common::key_chunk::Chunk;
+use crate::common::key_names::Names;
 use crate::common::path::Path;
 use crate::common::path_buf::PathBuf;
 use crate::scan::{Step, StepKind, WindowsPrefix};
@@ -28,10 +31,9 @@ pub trait KeyPath: Eq {
 }
 
 impl<'a, T: Encoding> KeyPath for Path<'a, T> {
-    ghost key_input = { λ p. key_words T.dialect (path_bytes p) };
+    ghost key_input = { λ p. key_writes T.dialect (path_bytes p) };
 
-    ghost keys_respect_eq = { λ p q same. ap kinds_key_words
-        (same-kinds T.dialect (path_bytes p) (path_bytes q) same) };
+    ghost keys_respect_eq = { λ p q. same-writes T.dialect (path_bytes p) (path_bytes q) };
 
     fn hash_key<H: Hasher>(&self, state: &mut H) {
         feed_key::<T, H>(self.as_bytes(), state);
@@ -39,10 +41,9 @@ impl<'a, T: Encoding> KeyPath for Path<'a, T> {
 }
 
 impl<T: Encoding> KeyPath for PathBuf<T> {
-    ghost key_input = { λ p. key_words T.dialect p.bytes };
+    ghost key_input = { λ p. key_writes T.dialect p.bytes };
 
-    ghost keys_respect_eq = { λ p q same. ap kinds_key_words
-        (same-kinds T.dialect p.bytes q.bytes same) };
+    ghost keys_respect_eq = { λ p q. same-writes T.dialect p.bytes q.bytes };
 
     fn hash_key<H: Hasher>(&self, state: &mut H) {
         self.as_path().hash_key(state);
@@ -94,94 +95,93 @@ impl<P: KeyPath> Hash for Key<P> {
 
 /// Feeds the key of a path to a hasher.
 fn feed_key<T: Encoding, H: Hasher>(path: &[u8], state: &mut H)
-    ensures { state.new ≡ fold H.write state.old (key_words T.dialect path.now) }
+    ensures { state.new ≡ fold H.write state.old (key_writes T.dialect path.now) }
 {
     let cursor = T::cursor(path);
-    feed_prefix(cursor.prefix(), state);
+    let mut chunk = Chunk::new();
+    feed_prefix(cursor.prefix(), &mut chunk, state);
     let mut body = cursor.body();
-    'steps: while let Some(step) = body.front() {
-        feed_step(step, state);
+    let mut names = Names::new();
+    'steps: loop {
+        let run = names.take(&mut body);
+        if !run.is_empty() {
+            chunk.put(run, state);
+            continue;
+        }
+        let Some(step) = body.front() else {
+            break;
+        };
+        feed_step(step, &mut chunk, state);
     }
-    state.write_u8(0);
+    chunk.put(&[0], state);
+    state.write(chunk.as_bytes());
 }
 
 /// Feeds the prefix of a path to a hasher, as [`feed_kind_and_names`] does; nothing without one.
 #[inline(always)]
-fn feed_prefix<H: Hasher>(prefix: Option<WindowsPrefix<'_>>, state: &mut H)
-    ensures { state.new
-        ≡ fold H.write state.old (key_words_before (option_map prefix_view prefix.entry)) }
+fn feed_prefix<H: Hasher>(prefix: Option<WindowsPrefix<'_>>, chunk: &mut Chunk, state: &mut H)
+    ensures { AreFed H.write (concat (key_words_before (option_map prefix_view prefix.entry)))
+        state.old (chunk_bytes chunk.old) (chunk_bytes chunk.new) state.new }
 {
     if let Some(prefix) = prefix {
-        feed_kind_and_names(prefix, state);
+        feed_kind_and_names(prefix, chunk, state);
     }
 }
 
 /// Feeds the number of a prefix's kind, and its names or its letter.
-fn feed_kind_and_names<H: Hasher>(prefix: WindowsPrefix<'_>, state: &mut H)
-    ensures { state.new ≡ fold H.write state.old (prefix_key_words (prefix_view prefix.entry)) }
+fn feed_kind_and_names<H: Hasher>(prefix: WindowsPrefix<'_>, chunk: &mut Chunk, state: &mut H)
+    ensures { AreFed H.write (concat (prefix_key_words (prefix_view prefix.entry)))
+        state.old (chunk_bytes chunk.old) (chunk_bytes chunk.new) state.new }
 {
     match prefix {
         WindowsPrefix::Verbatim(name) => {
-            state.write_u8(1);
-            feed_name(name, state);
+            chunk.put(&[1], state);
+            feed_name(name, chunk, state);
         }
         WindowsPrefix::VerbatimUNC(server, share) => {
-            state.write_u8(2);
-            feed_name(server, state);
-            feed_name(share, state);
+            chunk.put(&[2], state);
+            feed_name(server, chunk, state);
+            feed_name(share, chunk, state);
         }
-        WindowsPrefix::VerbatimDisk(letter) => {
-            state.write_u8(3);
-            state.write_u8(letter);
-        }
+        WindowsPrefix::VerbatimDisk(letter) => chunk.put(&[3, letter], state),
         WindowsPrefix::DeviceNS(name) => {
-            state.write_u8(4);
-            feed_name(name, state);
+            chunk.put(&[4], state);
+            feed_name(name, chunk, state);
         }
         WindowsPrefix::UNC(server, share) => {
-            state.write_u8(5);
-            feed_name(server, state);
-            feed_name(share, state);
+            chunk.put(&[5], state);
+            feed_name(server, chunk, state);
+            feed_name(share, chunk, state);
         }
-        WindowsPrefix::Disk(letter) => {
-            state.write_u8(6);
-            state.write_u8(letter);
-        }
+        WindowsPrefix::Disk(letter) => chunk.put(&[6, letter], state),
     }
 }
 
 /// Feeds a component after the prefix: the number of its kind, or its name.
 #[inline(always)]
-fn feed_step<H: Hasher>(step: Step<'_>, state: &mut H)
-    ensures { state.new ≡ fold H.write state.old (kind_key_words (step_part step.entry).kind) }
+fn feed_step<H: Hasher>(step: Step<'_>, chunk: &mut Chunk, state: &mut H)
+    ensures { AreFed H.write (concat (kind_key_words (step_part step.entry).kind))
+        state.old (chunk_bytes chunk.old) (chunk_bytes chunk.new) state.new }
 {
     match step.kind {
-        StepKind::RootDir => state.write_u8(7),
-        StepKind::CurDir => state.write_u8(8),
-        StepKind::ParentDir => state.write_u8(9),
-        StepKind::Normal => feed_name(step.text, state),
+        StepKind::RootDir => chunk.put(&[7], state),
+        StepKind::CurDir => chunk.put(&[8], state),
+        StepKind::ParentDir => chunk.put(&[9], state),
+        StepKind::Normal => feed_name(step.text, chunk, state),
     }
 }
 
-/// Feeds the length of a name, as [`feed_length`] does, and its bytes.
-#[inline(always)]
-fn feed_name<H: Hasher>(name: &[u8], state: &mut H)
-    ensures { state.new ≡ fold H.write state.old (length_prefixed name.now) }
+/// Feeds the length of a name and its bytes. Up to 244 the length is one byte that is 10 more,
+/// which is not the number of a kind; a greater one comes after the byte 255, lowest byte first.
+fn feed_name<H: Hasher>(name: &[u8], chunk: &mut Chunk, state: &mut H)
+    ensures { AreFed H.write (concat (length_prefixed name.now))
+        state.old (chunk_bytes chunk.old) (chunk_bytes chunk.new) state.new }
 {
-    feed_length(name.len(), state);
-    state.write(name);
-}
-
-/// Feeds a length: up to 244 as one byte that is 10 more, which is not the number of a kind; a
-/// greater one after the byte 255.
-#[inline(always)]
-fn feed_length<H: Hasher>(length: usize, state: &mut H)
-    ensures { state.new ≡ fold H.write state.old (length_words length) }
-{
-    if length < 245 {
-        state.write_u8(10 + length as u8);
+    if name.len() < 245 {
+        chunk.put(&[10 + name.len() as u8], state);
     } else {
-        state.write_u8(255);
-        state.write_usize(length);
+        chunk.put(&[255], state);
+        chunk.put(&name.len().to_le_bytes(), state);
     }
+    chunk.put(name, state);
 }

@@ -1,6 +1,6 @@
 //! A cursor over the components of a path, which takes them from both ends.
 
-ghost use Rattle.std.specs.Prelude.{◌≡◌, ◌≤◌, ◌<◌, ◌-◌, ℕ, List, length, slice_range, true, [], take, drop, option_map, is_some, Some, None, IfSome, IfNone, IsTrue};
+ghost use Rattle.std.specs.Prelude.{◌≡◌, ◌≤◌, ◌<◌, ◌-◌, ◌+◌, ℕ, List, length, slice_range, true, [], take, drop, option_map, is_some, Some, None, IfSome, IfNone, IsTrue};
 ghost use Rattle.std.specs.List.{position_or_len};
 ghost use Rattle.typed_path.specs.components.{Dialect, prefix_part, body, comps, component, Placed, end_of, kinds, parts, windows, dialect_of, is_separator, later_body};
 ghost use Rattle.typed_path.specs.views.PieceViews.{part_of, prefix_view, step_part};
@@ -523,6 +523,24 @@ impl<'a> Body<'a> {
             to: text.len(),
             begin: Begin::Inside,
             separators,
+        }
+    }
+
+    /// Returns what is left `count` bytes further on, where nothing is left or a component begins,
+    /// as after others.
+    #[inline(always)]
+    pub fn further(self, count: usize) -> Body<'a>
+        requires within { count ≤ length (body_slice self) }
+        requires clean { is_clean Begin.Inside self.separators (drop count (body_slice self)) ≡ true }
+        ensures items { body_items result ≡ later_body self.entry.separators (self.entry.from + count)
+            (drop count (body_slice self.entry)) }
+    {
+        Body {
+            text: self.text,
+            from: self.from + count,
+            to: self.to,
+            begin: Begin::Inside,
+            separators: self.separators,
         }
     }
 

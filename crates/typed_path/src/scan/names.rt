@@ -226,7 +226,7 @@ fn no_names_among(text: &[u8], at: usize, ends: u64, pair: (u8, u8)) -> u64
 /// Whether a segment that begins with `first` and `second` may be no name: it is empty, `.`, or
 /// begins with `..`.
 #[inline(always)]
-fn begins_no_name(pair: (u8, u8), first: u8, second: u8) -> bool
+pub fn begins_no_name(pair: (u8, u8), first: u8, second: u8) -> bool
     ensures { result ≡ begins_no_name pair first second }
 {
     is_one_of(pair, first) || (first == b'.' && (is_one_of(pair, second) || second == b'.'))

@@ -9,8 +9,7 @@ ghost use Rattle.typed_path.specs.typed.Outcomes.{JoinsChecked, JoinsPortable, L
 ghost use Rattle.typed_path.specs.texts.{is_text_option, IsTextError, are_texts};
 ghost use Rattle.typed_path.specs.components.{kinds, comps, parts_of, unix, windows};
 ghost use Rattle.typed_path.specs.queries.{is_absolute, has_root, is_portable, is_valid, may_be_device, parent_of, portable_fault, unportable, file_name_of, file_stem_of, stripped, path_starts_with, path_ends_with, ancestors_of, stripped_to, extension, file_prefix_of, has_trailing_separator, common_ancestor_of};
-ghost use Rattle.typed_path.specs.order.{is_same, key_words, kinds_key_words, lowered, path_cmp, same-kinds};
-ghost use Rattle.std.proofs.Common.{ap};
+ghost use Rattle.typed_path.specs.order.{is_same, key_writes, lowered, path_cmp, same-writes};
 ghost use Rattle.typed_path.specs.places.{clean_text, is_within};
 ghost use Rattle.typed_path.specs.promises.{keeps_prefix};
 ghost use Rattle.typed_path.specs.changes.{error_of, with_file_name, with_extension, with_added_extension};
@@ -43,10 +42,9 @@ pub struct Utf8Path<'a, T: Utf8Encoding> {
 }
 
 impl<'a, T: Utf8Encoding> KeyPath for Utf8Path<'a, T> {
-    ghost key_input = { λ p. key_words T.Bytes.dialect (path_bytes p.path) };
+    ghost key_input = { λ p. key_writes T.Bytes.dialect (path_bytes p.path) };
 
-    ghost keys_respect_eq = { λ p q same. ap kinds_key_words
-        (same-kinds T.Bytes.dialect (path_bytes p.path) (path_bytes q.path) same) };
+    ghost keys_respect_eq = { λ p q. same-writes T.Bytes.dialect (path_bytes p.path) (path_bytes q.path) };
 
     fn hash_key<H: Hasher>(&self, state: &mut H) {
         self.path.hash_key(state);

@@ -9,7 +9,7 @@ ghost use Rattle.typed_path.specs.promises.{HasPrefixOf, LiesWithin};
 ghost use Rattle.typed_path.specs.queries.{parent_of, file_name_of};
 ghost use Rattle.std.specs.Cmp.{eq_by_cmp_equiv, on_total, partial_equiv_from_equiv, partial_order_from_total};
 ghost use Rattle.std.specs.Ordering.{on, as_partial_cmp};
-ghost use Rattle.typed_path.specs.order.{is_same, key_words, kinds_key_words, path_cmp, path_cmp_total, same-kinds};
+ghost use Rattle.typed_path.specs.order.{is_same, key_writes, path_cmp, path_cmp_total, same-kinds, same-writes};
 ghost use Rattle.std.proofs.Common.{ap};
 ghost use Rattle.typed_path.specs.components.{kinds, parts_of};
 ghost use Rattle.typed_path.specs.order.Words.{kinds_words};
@@ -488,10 +488,9 @@ impl<T: Utf8Encoding> Hash for Utf8PathBuf<T> {
 }
 
 impl<T: Utf8Encoding> KeyPath for Utf8PathBuf<T> {
-    ghost key_input = { λ p. key_words T.Bytes.dialect p.bytes };
+    ghost key_input = { λ p. key_writes T.Bytes.dialect p.bytes };
 
-    ghost keys_respect_eq = { λ p q same. ap kinds_key_words
-        (same-kinds T.Bytes.dialect p.bytes q.bytes same) };
+    ghost keys_respect_eq = { λ p q. same-writes T.Bytes.dialect p.bytes q.bytes };
 
     fn hash_key<H: Hasher>(&self, state: &mut H) {
         self.inner.hash_key(state);

@@ -1,5 +1,5 @@
 -- The words of keys as bytes: how many they are, and how they come into a buffer one behind the other.
-use Rattle.std.proofs.Common.{◌≡◌, ℕ, ◌+◌, ◌*◌, ◌≤◌, ◌==◌, Bool, true, false, List, [], ◌∷◌, ◌++◌, length, take, drop, Option, Some, None, refl, sym, ap, ◌∙◌, arith, subst, append-nil, if◌then◌else◌, length-take-le, length-append, take_at, drop_at, take-append-drop}
+use Rattle.std.proofs.Common.{◌≡◌, ℕ, ◌+◌, ◌*◌, ◌≤◌, ◌<◌, ◌==◌, eqb-true, Bool, true, false, List, [], ◌∷◌, ◌++◌, length, take, drop, Option, Some, None, refl, sym, ap, ◌∙◌, arith, subst, append-nil, if◌then◌else◌, length-take-le, length-append, take_at, drop_at, take-append-drop}
 use Rattle.std.specs.Prelude.{nat_lt}
 use Rattle.std.specs.List.{concat, flat_map, AllByRecursion}
 use Rattle.std.specs.Hash.{u8, usize, le_bytes}
@@ -9,16 +9,15 @@ use Rattle.std.proofs.lemmas.List.{append_assoc, drop-drop}
 use Rattle.std.proofs.lemmas.List.Folds.{concat-append}
 use Rattle.typed_path.specs.declared.scan.separators.Separators.{Separators}
 use Rattle.typed_path.specs.declared.scan.separators.Separators.TheVariants.{Either}
-use Rattle.typed_path.specs.components.{Dialect, unix, windows, Prefix, Kind, prefix, root, current, parent, normal, Part, Placed, kinds, parts, parts_of, comps, end_of, separators, Found, prefix_of, name, second_name, root_text}
+use Rattle.typed_path.specs.components.{Dialect, unix, windows, Prefix, verbatim, verbatim_unc, verbatim_disk, device_ns, unc, disk, Kind, prefix, root, current, parent, normal, Part, Placed, kinds, parts, parts_of, comps, end_of, separators, Found, prefix_of, name, second_name, root_text}
 use Rattle.typed_path.specs.scan.{AreInOrder, first_part}
-use Rattle.typed_path.specs.order.{key_bytes, IsPutFrom, key_words_before, kind_key_words, length_prefixed, length_words}
+use Rattle.typed_path.specs.order.{key_bytes, left_key_bytes, IsPutFrom, key_words_before, kind_key_words, kinds_key_words, length_prefixed, length_words}
 use Rattle.typed_path.specs.queries.{first_prefix, behind_prefix, is_prefix}
 use Rattle.typed_path.proofs.lemmas.lists.Lists.{AllByRecursion-weaker}
 use Rattle.typed_path.proofs.lemmas.components.Cuts.{comps-laid_out}
 use Rattle.typed_path.proofs.lemmas.components.PrefixNames.{second-stands}
 use Rattle.typed_path.proofs.lemmas.components.Prefixes.{Read, of_verbatim_unc, of_verbatim_disk, of_verbatim, of_device, of_unc, of_disk, prefix-read, prefix-fits}
 use Rattle.typed_path.proofs.lemmas.components.Segments.{IsWritten, IsWrittenPart, body_parts, body_parts-read, each-written, parts_behind, parts-comps_behind}
-use Rattle.typed_path.proofs.lemmas.order.KeyWords.{fed_keys}
 
 -- How many bytes the key of a path feeds.
 
@@ -37,6 +36,13 @@ prefixed-size a = by (nat_lt (length a) 245) refl
         let many : 245 ≤ length a = ltb-false (length a) 245 e in
         let size : length (le_bytes 8 (length a) ++ (a ++ [])) ≡ 8 + length a = omega (arith, ap length (append-nil a), le_bytes-size (length a), length-append (le_bytes 8 (length a)) (a ++ [])) in
         (omega (arith, many, size), λ filled. omega (arith, many, size))
+
+prefixed-some : (a : List ℕ) → 1 ≤ length (concat (length_prefixed a))
+prefixed-some a = by (nat_lt (length a) 245)
+  where
+    by : (b : Bool) → 1 ≤ length (concat ((if b then u8 (10 + length a) else u8 255 ++ usize (length a)) ++ a ∷ []))
+    by true = omega arith
+    by false = omega arith
 
 -- and those of two
 both-size : (a b : List ℕ) → length (concat (length_prefixed a ++ length_prefixed b)) ≤ 2 * length a + 2 * length b + 2
@@ -92,18 +98,37 @@ path-sizes d t = subst (AllByRecursion (λ p. key_size p.kind ≤ 2 * length p.t
     by (Some f) e = (prefix-size d t f e, body-sizes (separators d t) (drop f.length t))
 
 -- the bytes of a component, and those of the others
-pub fed-split : (c : Placed) (cs : List Placed) → concat (fed_keys (c ∷ cs)) ≡ concat (kind_key_words c.part.kind) ++ concat (fed_keys cs)
+pub fed-split : (c : Placed) (cs : List Placed) → left_key_bytes (c ∷ cs) ≡ concat (kind_key_words c.part.kind) ++ left_key_bytes cs
 fed-split c cs =
-    ap concat (append_assoc (kind_key_words c.part.kind) (flat_map kind_key_words (kinds (parts cs))) (u8 0)) ∙ concat-append (kind_key_words c.part.kind) (fed_keys cs)
+    ap concat (append_assoc (kind_key_words c.part.kind) (flat_map kind_key_words (kinds (parts cs))) (u8 0)) ∙ concat-append (kind_key_words c.part.kind) (kinds_key_words (kinds (parts cs)))
 
-fed-size : (at end : ℕ) (cs : List Placed) → AreInOrder at end cs → AllByRecursion (λ p. key_size p.kind ≤ 2 * length p.text) (parts cs) → length (concat (fed_keys cs)) + 2 * at ≤ 2 * end + 1
+fed-size : (at end : ℕ) (cs : List Placed) → AreInOrder at end cs → AllByRecursion (λ p. key_size p.kind ≤ 2 * length p.text) (parts cs) → length (left_key_bytes cs) + 2 * at ≤ 2 * end + 1
 fed-size at end [] order sizes = omega (arith, order)
 fed-size at end (c ∷ cs) order sizes =
-    omega (arith, order.0, sizes.0, fed-size (end_of c) end cs order.1 sizes.1, ap length (fed-split c cs), length-append (concat (kind_key_words c.part.kind)) (concat (fed_keys cs)))
+    omega (arith, order.0, sizes.0, fed-size (end_of c) end cs order.1 sizes.1, ap length (fed-split c cs), length-append (concat (kind_key_words c.part.kind)) (left_key_bytes cs))
 
 -- the key of a path feeds at most twice the bytes of the path, and one
 pub key_bytes_size : (d : Dialect) (t : List ℕ) → length (key_bytes d t) ≤ 2 * length t + 1
 key_bytes_size d t = omega (arith, fed-size 0 (length t) (comps d t) (comps-laid_out d t).in_order (path-sizes d t))
+
+-- a component feeds some bytes
+some_bytes : (k : Kind) → 1 ≤ key_size k
+some_bytes (prefix (verbatim a)) = omega arith
+some_bytes (prefix (verbatim_unc a b)) = omega arith
+some_bytes (prefix (verbatim_disk l)) = omega arith
+some_bytes (prefix (device_ns a)) = omega arith
+some_bytes (prefix (unc a b)) = omega arith
+some_bytes (prefix (disk l)) = omega arith
+some_bytes root = omega arith
+some_bytes current = omega arith
+some_bytes parent = omega arith
+some_bytes (normal a) = omega (arith, prefixed-some a)
+
+-- so fewer are left behind it
+pub fewer_bytes : (cs ds : List Placed) (p : Part) → Some p ≡ first_part cs → ds ≡ drop 1 cs → length (left_key_bytes ds) < length (left_key_bytes cs)
+fewer_bytes [] ds p first rest = cc first
+fewer_bytes (c ∷ cs) ds p first rest =
+    omega (arith, ap length (fed-split c cs), length-append (concat (kind_key_words c.part.kind)) (left_key_bytes cs), some_bytes c.part.kind, ap (λ es. length (left_key_bytes es)) rest)
 
 -- Bytes that are put into a buffer.
 
@@ -155,19 +180,19 @@ twice_prefixed-bytes a b = sym (concat-append (length_prefixed a) (length_prefix
 -- so much was put of all bytes, and those of these components are left
 pub record IsPutSoFar (all old : List ℕ) (cs : List Placed) (out : List ℕ) (at : ℕ) : Type 0 where
   pub gone : List ℕ
-  pub split : all ≡ gone ++ concat (fed_keys cs)
+  pub split : all ≡ gone ++ left_key_bytes cs
   pub put : IsPutFrom 0 gone old out at
 
 -- the bytes of the prefix, and those of what stands behind it
 abbrev SplitsAs : Placed → List Placed → Kind → Type 0
-SplitsAs c cs k = concat (fed_keys (c ∷ cs)) ≡ concat (key_words_before (first_prefix (k ∷ kinds (parts cs)))) ++ concat (fed_keys (if is_prefix k then cs else c ∷ cs))
+SplitsAs c cs k = left_key_bytes (c ∷ cs) ≡ concat (key_words_before (first_prefix (k ∷ kinds (parts cs)))) ++ left_key_bytes (if is_prefix k then cs else c ∷ cs)
 
-prefix-split : (cs : List Placed) → concat (fed_keys cs) ≡ concat (key_words_before (first_prefix (kinds (parts cs)))) ++ concat (fed_keys (behind_prefix cs))
+pub prefix-split : (cs : List Placed) → left_key_bytes cs ≡ concat (key_words_before (first_prefix (kinds (parts cs)))) ++ left_key_bytes (behind_prefix cs)
 prefix-split [] = refl
 prefix-split (c ∷ cs) = by c.part.kind refl
   where
     by : (k : Kind) → c.part.kind ≡ k → SplitsAs c cs c.part.kind
-    by (prefix p) e = subst (SplitsAs c cs) (sym e) (fed-split c cs ∙ ap (λ k. concat (kind_key_words k) ++ concat (fed_keys cs)) e)
+    by (prefix p) e = subst (SplitsAs c cs) (sym e) (fed-split c cs ∙ ap (λ k. concat (kind_key_words k) ++ left_key_bytes cs) e)
     by root e = subst (SplitsAs c cs) (sym e) refl
     by current e = subst (SplitsAs c cs) (sym e) refl
     by parent e = subst (SplitsAs c cs) (sym e) refl
@@ -175,11 +200,11 @@ prefix-split (c ∷ cs) = by c.part.kind refl
 
 module _ (all old : List ℕ) where
   -- the prefix was put, where there is one
-  pub put_first : (cs ds : List Placed) (o : Option Prefix) (out : List ℕ) (at : ℕ) → all ≡ concat (fed_keys cs) → o ≡ first_prefix (kinds (parts cs)) → ds ≡ behind_prefix cs
+  pub put_first : (cs ds : List Placed) (o : Option Prefix) (out : List ℕ) (at : ℕ) → all ≡ left_key_bytes cs → o ≡ first_prefix (kinds (parts cs)) → ds ≡ behind_prefix cs
       → IsPutFrom 0 (concat (key_words_before o)) old out at → IsPutSoFar all old ds out at
   put_first cs ds o out at e first behind put = record {
     gone = concat (key_words_before o);
-    split = e ∙ prefix-split cs ∙ (λ i. concat (key_words_before (sym first i)) ++ concat (fed_keys (sym behind i)));
+    split = e ∙ prefix-split cs ∙ (λ i. concat (key_words_before (sym first i)) ++ left_key_bytes (sym behind i));
     put = put;
   }
 
@@ -188,10 +213,10 @@ module _ (all old : List ℕ) where
   moved cs out new at end same there so_far = subst (λ o. IsPutSoFar all old cs o end) (sym same) (subst (λ n. IsPutSoFar all old cs out n) (sym there) so_far)
 
   -- which has no more bytes than all
-  pub first_fits : (cs : List Placed) (o : Option Prefix) → all ≡ concat (fed_keys cs) → o ≡ first_prefix (kinds (parts cs)) → length (concat (key_words_before o)) ≤ length all
+  pub first_fits : (cs : List Placed) (o : Option Prefix) → all ≡ left_key_bytes cs → o ≡ first_prefix (kinds (parts cs)) → length (concat (key_words_before o)) ≤ length all
   first_fits cs o e first =
       let front : length (concat (key_words_before o)) ≡ length (concat (key_words_before (first_prefix (kinds (parts cs))))) = ap (λ q. length (concat (key_words_before q))) first in
-      omega (arith, ap length (e ∙ prefix-split cs), length-append (concat (key_words_before (first_prefix (kinds (parts cs))))) (concat (fed_keys (behind_prefix cs))), front)
+      omega (arith, ap length (e ∙ prefix-split cs), length-append (concat (key_words_before (first_prefix (kinds (parts cs))))) (left_key_bytes (behind_prefix cs)), front)
 
   -- a component was put
   pub put_more : (cs ds : List Placed) (p : Part) (out new : List ℕ) (at end : ℕ) → Some p ≡ first_part cs → ds ≡ drop 1 cs
@@ -202,8 +227,8 @@ module _ (all old : List ℕ) where
       let own = concat (kind_key_words c.part.kind) in
       record {
         gone = so_far.gone ++ own;
-        split = so_far.split ∙ ap (λ xs. so_far.gone ++ xs) (fed-split c cs) ∙ sym (append_assoc so_far.gone own (concat (fed_keys cs)))
-            ∙ ap (λ es. so_far.gone ++ own ++ concat (fed_keys es)) (sym rest);
+        split = so_far.split ∙ ap (λ xs. so_far.gone ++ xs) (fed-split c cs) ∙ sym (append_assoc so_far.gone own (left_key_bytes cs))
+            ∙ ap (λ es. so_far.gone ++ own ++ left_key_bytes es) (sym rest);
         put = put_both 0 at end so_far.gone own old out new so_far.put (subst (λ q. IsPutFrom at (concat (kind_key_words q.kind)) out new end) same put);
       }
 
@@ -212,7 +237,25 @@ module _ (all old : List ℕ) where
   more_fits (c ∷ cs) p out at first so_far =
       let same : p ≡ c.part = cc first in
       let own : length (concat (kind_key_words p.kind)) ≡ length (concat (kind_key_words c.part.kind)) = ap (λ q. length (concat (kind_key_words q.kind))) same in
-      omega (arith, own, ap length so_far.split, length-append so_far.gone (concat (fed_keys (c ∷ cs))), ap length (fed-split c cs), length-append (concat (kind_key_words c.part.kind)) (concat (fed_keys cs)), so_far.put.ends)
+      omega (arith, own, ap length so_far.split, length-append so_far.gone (left_key_bytes (c ∷ cs)), ap length (fed-split c cs), length-append (concat (kind_key_words c.part.kind)) (left_key_bytes cs), so_far.put.ends)
+
+  -- a run of bytes was put, and those of fewer components are left
+  pub put_run : (cs ds : List Placed) (run out new : List ℕ) (at end : ℕ) → left_key_bytes cs ≡ run ++ left_key_bytes ds → IsPutSoFar all old cs out at → IsPutFrom at run out new end → IsPutSoFar all old ds new end
+  put_run cs ds run out new at end left so_far put = record {
+    gone = so_far.gone ++ run;
+    split = so_far.split ∙ ap (λ xs. so_far.gone ++ xs) left ∙ sym (append_assoc so_far.gone run (left_key_bytes ds));
+    put = put_both 0 at end so_far.gone run old out new so_far.put put;
+  }
+
+  pub run_fits : (cs ds : List Placed) (run out : List ℕ) (at : ℕ) → left_key_bytes cs ≡ run ++ left_key_bytes ds → IsPutSoFar all old cs out at → at + length run ≤ length all
+  run_fits cs ds run out at left so_far =
+      omega (arith, ap length so_far.split, length-append so_far.gone (left_key_bytes cs), ap length left, length-append run (left_key_bytes ds), so_far.put.ends)
+
+  -- no bytes were put, and the same ones are left
+  pub put_no_run : (cs ds : List Placed) (run out : List ℕ) (at : ℕ) (none : Bool) → none ≡ (length run == 0) → none ≡ true → left_key_bytes cs ≡ run ++ left_key_bytes ds → IsPutSoFar all old cs out at
+      → IsPutSoFar all old ds out at × (length (left_key_bytes ds) ≡ length (left_key_bytes cs))
+  put_no_run cs ds [] out at none is empties left so_far = (put_run cs ds [] out out at at left so_far (put_none at out), ap length (sym left))
+  put_no_run cs ds (b ∷ run) out at none is empties left so_far = absurd (omega (arith, eqb-true (length (b ∷ run)) 0 (sym is ∙ empties)))
 
   -- all were put, and the word behind them
   pub put_last : (cs : List Placed) (out new : List ℕ) (at end : ℕ) → None ≡ first_part cs → IsPutSoFar all old cs out at → IsPutFrom at (0 ∷ []) out new end → IsPutFrom 0 all old new end
@@ -220,5 +263,5 @@ module _ (all old : List ℕ) where
   put_last (c ∷ cs) out new at end none so_far put = cc none
 
   pub last_fits : (cs : List Placed) (out : List ℕ) (at : ℕ) → None ≡ first_part cs → IsPutSoFar all old cs out at → at + 1 ≤ length all
-  last_fits [] out at none so_far = omega (arith, ap length so_far.split, length-append so_far.gone (concat (fed_keys [])), so_far.put.ends)
+  last_fits [] out at none so_far = omega (arith, ap length so_far.split, length-append so_far.gone (left_key_bytes []), so_far.put.ends)
   last_fits (c ∷ cs) out at none so_far = cc none

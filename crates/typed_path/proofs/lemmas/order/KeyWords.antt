@@ -257,24 +257,3 @@ keyed d t u fits other_fits = (
   (λ e. (told_apart d t u fits other_fits [] [] (ap (λ ws. concat ws ++ []) e)).0),
   λ same. ap kinds_key_words same,
 )
-
--- What a path feeds, component by component.
-
--- what components feed, and the word behind them
-abbrev pub fed_keys : List Placed → HashWrites
-fed_keys cs = kinds_key_words (kinds (parts cs))
-
-module _ {S : Type 0} (write : S → List ℕ → S) where
-  -- a component was fed
-  pub key-step : (s t : S) (p : Part) (cs ds : List Placed) → Some p ≡ first_part cs → ds ≡ drop 1 cs → t ≡ fold write s (kind_key_words p.kind)
-      → fold write s (fed_keys cs) ≡ fold write t (fed_keys ds)
-  key-step s t p cs ds first behind wrote = grind (arith, common_steps)
-
-  -- the prefix was fed, where there was one
-  pub key-prefix : (s t : S) (cs ds : List Placed) (o : Option Prefix) → o ≡ first_prefix (kinds (parts cs)) → ds ≡ behind_prefix cs → t ≡ fold write s (key_words_before o)
-      → fold write s (fed_keys cs) ≡ fold write t (fed_keys ds)
-  key-prefix s t cs ds o first behind wrote = grind (arith, common_steps)
-
-  -- nothing is left but the word behind them
-  pub key-end : (s : S) (cs : List Placed) → None ≡ first_part cs → fold write s (fed_keys cs) ≡ fold write s (u8 0)
-  key-end s cs h = grind arith

@@ -1,11 +1,9 @@
 use Rattle.std.proofs.Common.{option_map, sym, ap, arith, subst}
-use Rattle.std.specs.List.{concat}
-use Rattle.typed_path.specs.order.{key_bytes}
+use Rattle.typed_path.specs.order.{key_bytes, left_key_bytes}
 use Rattle.typed_path.specs.views.BodyViews.{body_items}
 use Rattle.typed_path.specs.views.CursorViews.{items_left}
 use Rattle.typed_path.specs.views.PieceViews.{prefix_view, step_part}
-use Rattle.typed_path.proofs.lemmas.order.KeyBytes.{IsPutSoFar, key_bytes_size, first_fits, put_first, more_fits, put_more, last_fits, put_last, moved}
-use Rattle.typed_path.proofs.lemmas.order.KeyWords.{fed_keys}
+use Rattle.typed_path.proofs.lemmas.order.KeyBytes.{IsPutSoFar, key_bytes_size, fewer_bytes, first_fits, put_first, more_fits, put_more, run_fits, put_run, put_no_run, last_fits, put_last, moved}
 use Rattle.typed_path.proofs.common.key_bytes.put_words.Goals as goal
 use Rattle.typed_path.proofs.common.key_bytes.put_words.Goals.{in-Some, in-None}
 
@@ -13,7 +11,7 @@ pub put_prefix-start-requires : goal.put_prefix-start-requires
 put_prefix-start-requires g c =
     let d = g.T.Encoding.dialect in
     let path = c.args.path.now in
-    let fits = first_fits (key_bytes d path) c.args.out.now (items_left c.cursor-cursor.result) (option_map prefix_view c.prefix.result) (ap (λ xs. concat (fed_keys xs)) (sym c.cursor-cursor.ensures.items)) c.prefix.ensures in
+    let fits = first_fits (key_bytes d path) c.args.out.now (items_left c.cursor-cursor.result) (option_map prefix_view c.prefix.result) (ap (λ xs. left_key_bytes xs) (sym c.cursor-cursor.ensures.items)) c.prefix.ensures in
     omega (arith, fits, key_bytes_size d path, c.well_formed.0.1)
 
 pub put_step-at-requires : goal.put_step-at-requires
@@ -22,7 +20,7 @@ put_step-at-requires g c =
     let old = c.args.out.now in
     let before = body_items c.body-body.result in
     let begun = put_first all old (items_left c.cursor-cursor.result) before (option_map prefix_view c.prefix.result) c.put_prefix-start.new.out c.put_prefix-start.result
-    (ap (λ xs. concat (fed_keys xs)) (sym c.cursor-cursor.ensures.items)) c.prefix.ensures c.body-body.ensures c.put_prefix-start.ensures in
+    (ap (λ xs. left_key_bytes xs) (sym c.cursor-cursor.ensures.items)) c.prefix.ensures c.body-body.ensures c.put_prefix-start.ensures in
     let fits = more_fits all old before (step_part c.in-Some.root) c.put_prefix-start.new.out c.put_prefix-start.result c.in-Some.ensures.taken begun in
     omega (arith, fits, key_bytes_size g.T.Encoding.dialect c.args.path.now, c.well_formed.0.1)
 
@@ -32,7 +30,7 @@ steps-init g c =
     let old = c.args.out.now in
     let before = body_items c.body-body.result in
     let begun = put_first all old (items_left c.cursor-cursor.result) before (option_map prefix_view c.prefix.result) c.put_prefix-start.new.out c.put_prefix-start.result
-    (ap (λ xs. concat (fed_keys xs)) (sym c.cursor-cursor.ensures.items)) c.prefix.ensures c.body-body.ensures c.put_prefix-start.ensures in
+    (ap (λ xs. left_key_bytes xs) (sym c.cursor-cursor.ensures.items)) c.prefix.ensures c.body-body.ensures c.put_prefix-start.ensures in
     let behind = body_items c.root.new.self in
     elim c.match-root.branch [
       | in-Some w ↦
@@ -44,26 +42,51 @@ steps-init g c =
           moved all old behind c.put_prefix-start.new.out c.match-root.out c.put_prefix-start.result c.match-root.at w.out-is w.at-is none
     ]
 
-pub put_step-at-requires-in-Some-front : goal.put_step-at-requires-in-Some-front
-put_step-at-requires-in-Some-front g c =
+-- where the names that stand side by side are taken, the same bytes are left
+pub put_bytes-at-requires : goal.put_bytes-at-requires
+put_bytes-at-requires g c =
     let d = g.T.Encoding.dialect in
     let path = c.args.path.now in
-    let fits = more_fits (key_bytes d path) c.args.out.now (body_items c.steps.body) (step_part c.in-Some-front.step) c.steps.out c.steps.at c.in-Some-front.ensures.taken c.steps.invariant in
+    let fits = run_fits (key_bytes d path) c.args.out.now (body_items c.steps.body) (body_items c.take-run.new.body) c.take-run.result.now c.steps.out c.steps.at c.take-run.ensures c.steps.invariant in
     omega (arith, fits, key_bytes_size d path, c.well_formed.0.1)
+
+pub steps-preserved-then-not-is_empty : goal.steps-preserved-then-not-is_empty
+steps-preserved-then-not-is_empty g c =
+    put_run (key_bytes g.T.Encoding.dialect c.args.path.now) c.args.out.now (body_items c.steps.body) (body_items c.take-run.new.body) c.take-run.result.now c.steps.out c.put_bytes-at.new.out c.steps.at c.put_bytes-at.result
+    c.take-run.ensures c.steps.invariant c.put_bytes-at.ensures
+
+pub put_step-at-requires-in-steps : goal.put_step-at-requires-in-steps
+put_step-at-requires-in-steps g c =
+    let d = g.T.Encoding.dialect in
+    let path = c.args.path.now in
+    let same = put_no_run (key_bytes d path) c.args.out.now (body_items c.steps.body) (body_items c.take-run.new.body) c.take-run.result.now c.steps.out c.steps.at c.is_empty.result c.is_empty.ensures c.if-not-is_empty.false c.take-run.ensures c.steps.invariant in
+    let fits = more_fits (key_bytes d path) c.args.out.now (body_items c.take-run.new.body) (step_part c.in-Some-front.step) c.steps.out c.steps.at c.in-Some-front.ensures.taken same.0 in
+    omega (arith, fits, key_bytes_size d path, c.well_formed.0.1)
+
+pub steps-smaller : goal.steps-smaller
+steps-smaller g c =
+    let all = key_bytes g.T.Encoding.dialect c.args.path.now in
+    let same = put_no_run all c.args.out.now (body_items c.steps.body) (body_items c.take-run.new.body) c.take-run.result.now c.steps.out c.steps.at c.is_empty.result c.is_empty.ensures c.if-not-is_empty.false c.take-run.ensures c.steps.invariant in
+    omega (arith, same.1, fewer_bytes (body_items c.take-run.new.body) (body_items c.front.new.self) (step_part c.in-Some-front.step) c.in-Some-front.ensures.taken c.in-Some-front.ensures.items)
 
 pub steps-preserved : goal.steps-preserved
 steps-preserved g c =
-    put_more (key_bytes g.T.Encoding.dialect c.args.path.now) c.args.out.now (body_items c.steps.body) (body_items c.front.new.self) (step_part c.in-Some-front.step)
-    c.steps.out c.put_step-at-in-Some-front.new.out c.steps.at c.put_step-at-in-Some-front.result c.in-Some-front.ensures.taken c.in-Some-front.ensures.items c.steps.invariant c.put_step-at-in-Some-front.ensures
+    let all = key_bytes g.T.Encoding.dialect c.args.path.now in
+    let same = put_no_run all c.args.out.now (body_items c.steps.body) (body_items c.take-run.new.body) c.take-run.result.now c.steps.out c.steps.at c.is_empty.result c.is_empty.ensures c.if-not-is_empty.false c.take-run.ensures c.steps.invariant in
+    put_more all c.args.out.now (body_items c.take-run.new.body) (body_items c.front.new.self) (step_part c.in-Some-front.step)
+    c.steps.out c.put_step-at-in-steps.new.out c.steps.at c.put_step-at-in-steps.result c.in-Some-front.ensures.taken c.in-Some-front.ensures.items same.0 c.put_step-at-in-steps.ensures
 
 pub put_bytes-requires : goal.put_bytes-requires
 put_bytes-requires g c =
     let d = g.T.Encoding.dialect in
     let path = c.args.path.now in
-    let fits = last_fits (key_bytes d path) c.args.out.now (body_items c.steps.body) c.steps.out c.steps.at c.in_default.ensures.taken c.steps.invariant in
+    let same = put_no_run (key_bytes d path) c.args.out.now (body_items c.steps.body) (body_items c.take-run.new.body) c.take-run.result.now c.steps.out c.steps.at c.is_empty.result c.is_empty.ensures c.if-not-is_empty.false c.take-run.ensures c.steps.invariant in
+    let fits = last_fits (key_bytes d path) c.args.out.now (body_items c.take-run.new.body) c.steps.out c.steps.at c.in_default.ensures.taken same.0 in
     omega (arith, fits, key_bytes_size d path, c.well_formed.0.1)
 
 pub returns : goal.returns
 returns g c =
-    put_last (key_bytes g.T.Encoding.dialect c.args.path.now) c.args.out.now (body_items c.steps.body) c.steps.out c.put_bytes.new.out c.steps.at c.put_bytes.result
-    c.in_default.ensures.taken c.steps.invariant c.put_bytes.ensures
+    let all = key_bytes g.T.Encoding.dialect c.args.path.now in
+    let same = put_no_run all c.args.out.now (body_items c.steps.body) (body_items c.take-run.new.body) c.take-run.result.now c.steps.out c.steps.at c.is_empty.result c.is_empty.ensures c.if-not-is_empty.false c.take-run.ensures c.steps.invariant in
+    put_last all c.args.out.now (body_items c.take-run.new.body) c.steps.out c.put_bytes.new.out c.steps.at c.put_bytes.result
+    c.in_default.ensures.taken same.0 c.put_bytes.ensures
