@@ -22,8 +22,8 @@ pub trait KeyPath: Eq {
 
     /// Feeds the key of a path to a hasher: of a name its length and its bytes; of any other
     /// component a byte for its kind, and after that of a prefix its names in the same way, or the
-    /// letter of its drive; and last a byte with which no component begins. A typed path feeds the
-    /// number of its dialect first.
+    /// letter of its drive; and then a byte with which no component begins. These are fed 128 at
+    /// once. A typed path feeds the number of its dialect last.
     fn hash_key<H: Hasher>(&self, state: &mut H)
         ensures { state.new ≡ fold H.write state.old (key_input self.now) };
 

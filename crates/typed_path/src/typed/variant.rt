@@ -176,12 +176,12 @@ impl<U: KeyPath, W: KeyPath> KeyPath for Typed<U, W> {
     fn hash_key<H: Hasher>(&self, state: &mut H) {
         match self {
             Typed::Unix(path) => {
-                state.write_u8(0);
                 path.hash_key(state);
+                state.write_u8(0);
             }
             Typed::Windows(path) => {
-                state.write_u8(1);
                 path.hash_key(state);
+                state.write_u8(1);
             }
         }
     }

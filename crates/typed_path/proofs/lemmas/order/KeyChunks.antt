@@ -1,10 +1,10 @@
 -- The bytes of a key as they are fed to a hasher, so many a word.
-use Rattle.std.proofs.Common.{◌≡◌, ℕ, zero, suc, ◌+◌, ◌-◌, ◌^◌, ◌<◌, ◌≤◌, ◌==◌, Bool, true, false, List, [], ◌∷◌, ◌++◌, length, take, drop, fold, Option, Some, None, refl, sym, ap, ◌∙◌, arith, subst, if◌then◌else◌, append-nil, length-append, length-drop, length-take-le, eqb-true}
+use Rattle.std.proofs.Common.{◌≡◌, ℕ, zero, suc, ◌+◌, ◌^◌, ◌<◌, ◌≤◌, ◌==◌, Bool, true, false, List, [], ◌∷◌, ◌++◌, length, take, drop, fold, Option, Some, None, refl, sym, ap, ◌∙◌, arith, subst, if◌then◌else◌, append-nil, length-append, length-drop, eqb-true}
 use Rattle.std.specs.Prelude.{nat_lt}
 use Rattle.std.specs.List.{concat}
 use Rattle.std.proofs.lemmas.Bool.{lt-ltb, le-ltb}
 use Rattle.std.proofs.lemmas.List.{append_assoc, take_at, drop_at, take-append-drop, drop_all}
-use Rattle.typed_path.specs.components.{Dialect, Kind, Part, Placed, Prefix, kinds, parts}
+use Rattle.typed_path.specs.components.{Dialect, Part, Placed, Prefix, kinds, parts}
 use Rattle.typed_path.specs.scan.{first_part}
 use Rattle.typed_path.specs.queries.{first_prefix, behind_prefix}
 use Rattle.typed_path.specs.order.{AreFed, AreFedAlike, IsPutFrom, chunked, key_bytes, left_key_bytes, key_words_before, kind_key_words, kinds_key_words, length_prefixed, length_words}

@@ -1,6 +1,6 @@
 -- Names that stand side by side in a text, laid out as a key has them.
-use Rattle.std.proofs.Common.{◌≡◌, ℕ, ◌+◌, ◌-◌, ◌*◌, ◌^◌, ◌/◌, ◌<◌, ◌≤◌, ◌==◌, ◌&&◌, ◌||◌, not, Bool, true, false, List, [], ◌∷◌, ◌++◌, length, take, drop, get_or, refl, sym, ap, ◌∙◌, arith, subst, cond, if◌then◌else◌, length-append, length-drop, length-take-le, take_all, append-nil, ⊎_elim, set, suc}
-use Rattle.std.specs.Prelude.{slice_index, slice_set, replicate, nat_lt}
+use Rattle.std.proofs.Common.{◌≡◌, ℕ, ◌+◌, ◌-◌, ◌^◌, ◌/◌, ◌<◌, ◌≤◌, ◌==◌, ◌&&◌, ◌||◌, Bool, true, false, List, [], ◌∷◌, ◌++◌, length, take, drop, get_or, refl, sym, ap, ◌∙◌, arith, subst, cond, if◌then◌else◌, length-drop, length-take-le, take_all, append-nil, ⊎_elim, set, suc}
+use Rattle.std.specs.Prelude.{replicate}
 use Rattle.std.specs.List.{concat, before_first, position_or_len}
 use Rattle.std.specs.Hash.{u8, usize}
 use Rattle.std.specs.Int.{bit_at}
@@ -9,15 +9,13 @@ use Rattle.std.proofs.lemmas.List.{append_assoc, drop-drop, drop-take, drop-repl
 use Rattle.std.proofs.Math.Seq.{take-append-add}
 use Rattle.std.proofs.lemmas.Nat.{shr-shr}
 use Rattle.std.proofs.lemmas.List.Sums.{position_or_len_is}
-use Rattle.std.proofs.lemmas.List.Folds.{concat-append}
-use Rattle.std.proofs.lemmas.Grind.{common_steps}
 use Rattle.typed_path.specs.declared.scan.separators.Separators.{Separators}
 use Rattle.typed_path.specs.declared.scan.cursor.Begin.{Begin}
 use Rattle.typed_path.specs.declared.scan.cursor.Begin.TheVariants.{Body, Inside}
-use Rattle.typed_path.specs.components.{dot, is_separator, later_body, Placed, parts, kinds, normal, later, first, component, name_part}
+use Rattle.typed_path.specs.components.{dot, is_separator, later_body, kinds, later, first, component, name_part}
 use Rattle.typed_path.specs.scan.{IsMask, is_one_of, stands_at, body_from}
 use Rattle.typed_path.specs.changes.{begins_no_name, is_name_piece}
-use Rattle.typed_path.specs.order.{IsPutFrom, left_key_bytes, length_prefixed, kind_key_words, kinds_key_words}
+use Rattle.typed_path.specs.order.{IsPutFrom, left_key_bytes, length_prefixed, kinds_key_words}
 use Rattle.typed_path.proofs.lemmas.components.Segments.{later_body-first, later_body-separator, body_of-first, segment-byte, parts-later_body}
 use Rattle.typed_path.proofs.lemmas.order.KeyBytes.{fed-split}
 use Rattle.typed_path.proofs.lemmas.scan.Searches.{mask-behind, mask-alike, of-set, of-unset, set-of}

@@ -1,5 +1,5 @@
 -- The words of keys, read back: no two lists of components feed alike, whatever is fed behind them.
-use Rattle.std.proofs.Common.{◌≡◌, ℕ, ◌+◌, ◌-◌, ◌^◌, ◌<◌, ◌≤◌, ◌==◌, Bool, true, false, List, [], ◌∷◌, ◌++◌, length, take, drop, Option, Some, None, refl, sym, ap, ap₂, fold, ◌∙◌, arith, subst, append-nil, if◌then◌else◌, length-drop}
+use Rattle.std.proofs.Common.{◌≡◌, ℕ, ◌+◌, ◌-◌, ◌^◌, ◌<◌, ◌≤◌, ◌==◌, Bool, true, false, List, [], ◌∷◌, ◌++◌, length, take, drop, Option, Some, None, refl, sym, ap, ap₂, ◌∙◌, arith, subst, append-nil, if◌then◌else◌, length-drop}
 use Rattle.std.specs.Prelude.{nat_lt}
 use Rattle.std.specs.List.{concat, flat_map, AllByRecursion, after_first, position_or_len}
 use Rattle.std.specs.Hash.{HashWrites, u8, usize, le_bytes}
@@ -10,13 +10,11 @@ use Rattle.std.proofs.lemmas.Bool.{ltb-true, lt-ltb, le-ltb}
 use Rattle.std.proofs.lemmas.List.{append_assoc}
 use Rattle.std.proofs.lemmas.List.Folds.{concat-append}
 use Rattle.std.proofs.lemmas.Option.{same_Some}
-use Rattle.std.proofs.lemmas.Grind.{common_steps}
 use Rattle.typed_path.specs.declared.scan.separators.Separators.{Separators}
 use Rattle.typed_path.specs.declared.scan.separators.Separators.TheVariants.{Either}
-use Rattle.typed_path.specs.components.{Dialect, unix, windows, Prefix, verbatim, verbatim_unc, verbatim_disk, device_ns, unc, disk, Kind, prefix, root, current, parent, normal, Part, Placed, kinds, parts, parts_of, body, end_of, separators, is_separator, Found, prefix_of, second_name}
-use Rattle.typed_path.specs.scan.{AreInOrder, first_part}
-use Rattle.typed_path.specs.queries.{first_prefix, behind_prefix}
-use Rattle.typed_path.specs.order.KeyWords.{IsKeyed, IsToldApart, key_words_before, kind_key_words, kinds_key_words, length_words, length_prefixed}
+use Rattle.typed_path.specs.components.{Dialect, unix, windows, verbatim, verbatim_unc, verbatim_disk, device_ns, unc, disk, Kind, prefix, root, current, parent, normal, Part, Placed, kinds, parts, parts_of, body, end_of, separators, is_separator, Found, prefix_of, second_name}
+use Rattle.typed_path.specs.scan.{AreInOrder}
+use Rattle.typed_path.specs.order.KeyWords.{IsKeyed, IsToldApart, kind_key_words, kinds_key_words, length_words, length_prefixed}
 use Rattle.typed_path.proofs.lemmas.lists.Lists.{AllByRecursion-weaker}
 use Rattle.typed_path.proofs.lemmas.components.Segments.{IsWritten, IsWrittenPart, body_parts, body_parts-read, each-written, parts-body, parts_behind, parts-comps_behind}
 use Rattle.typed_path.proofs.lemmas.components.Cuts.{body_in_order}

@@ -1,4 +1,4 @@
-use Rattle.std.proofs.Common.{◌≡◌, ◌≤◌, ◌+◌, ◌/◌, ◌++◌, drop, set, ℕ, List, length, take, refl, sym, ap, ◌∙◌, arith, subst}
+use Rattle.std.proofs.Common.{◌≡◌, ◌≤◌, ◌+◌, ◌/◌, ◌++◌, drop, set, ℕ, length, take, refl, sym, ap, ◌∙◌, arith, subst}
 use Rattle.typed_path.specs.components.{is_separator, later_body}
 use Rattle.typed_path.specs.scan.{is_one_of, body_from}
 use Rattle.typed_path.specs.order.{left_key_bytes}

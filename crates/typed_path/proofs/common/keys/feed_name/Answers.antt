@@ -1,9 +1,9 @@
-use Rattle.std.proofs.Common.{◌≡◌, ◌∷◌, [], ◌+◌, ◌++◌, length, sym, ap, ◌∙◌, arith, subst, if◌then◌else◌}
+use Rattle.std.proofs.Common.{◌∷◌, [], ◌+◌, ◌++◌, length, sym, ap, subst, if◌then◌else◌}
 use Rattle.std.specs.List.{concat}
 use Rattle.std.specs.Hash.{u8, usize}
 use Rattle.std.specs.Int.{w64, to_le_bytes}
 use Rattle.std.proofs.lemmas.Bool.{lt-ltb}
-use Rattle.typed_path.specs.order.{AreFed, length_words}
+use Rattle.typed_path.specs.order.{AreFed}
 use Rattle.typed_path.specs.views.KeyViews.{chunk_bytes}
 use Rattle.typed_path.proofs.lemmas.order.KeyBytes.{long_count}
 use Rattle.typed_path.proofs.lemmas.order.KeyChunks.{fed_both, fed_moved, fed_name}

@@ -1,5 +1,4 @@
-use Rattle.std.proofs.Common.{◌≡◌, ◌≤◌, ◌++◌, ◌-◌, length, refl, sym, ap, ◌∙◌, arith, fold, take-append-drop}
-use Rattle.typed_path.specs.order.{chunked}
+use Rattle.std.proofs.Common.{◌≡◌, ◌++◌, ◌-◌, sym, ◌∙◌, arith, take-append-drop}
 use Rattle.typed_path.specs.views.KeyViews.{chunk_bytes}
 use Rattle.typed_path.proofs.lemmas.order.KeyChunks.{chunk-filled, fed_full}
 use Rattle.typed_path.proofs.common.key_chunk.Chunk.put_over.Goals as goal

@@ -1,7 +1,6 @@
-use Rattle.std.proofs.Common.{ap, ◌∙◌, sym, refl, arith, ◌+◌, drop, slice_range}
+use Rattle.std.proofs.Common.{ap, ◌∙◌, refl, arith}
 use Rattle.typed_path.specs.declared.scan.cursor.Begin.TheVariants.{Inside}
 use Rattle.typed_path.specs.scan.{is_clean}
-use Rattle.typed_path.specs.components.{later_body}
 use Rattle.typed_path.proofs.lemmas.lists.Lists.{slice_range-later}
 use Rattle.typed_path.proofs.scan.cursor.Body.further.Goals as goal
 
