@@ -672,8 +672,8 @@ pub fn typed_values_compare_by_kind<U: Ord + Hash, W: Ord + Hash>(
         ≡ typed_words U.hash_input W.hash_input one.now }
 {}
 
-/// The key of a typed path feeds a hasher the number of its dialect, and then what the key of the
-/// path that it holds feeds.
+/// The key of a typed path feeds a hasher what the key of the path that it holds feeds, and then the
+/// number of its dialect.
 pub fn typed_keys_hash_by_kind<U: KeyPath, W: KeyPath>(key: &Key<Typed<U, W>>)
     ensures { ⟦<Key<Typed<U, W>> as Hash>⟧.hash_input key.now
         ≡ typed_key_words U.key_input W.key_input (keyed_path key.now) }

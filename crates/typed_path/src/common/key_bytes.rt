@@ -7,7 +7,7 @@ ghost use Rattle.typed_path.specs.views.PathViews.{path_bytes};
 ghost use Rattle.typed_path.specs.views.PieceViews.{prefix_view, step_part};
 
 use crate::common::encoding::Encoding;
-use crate::common::key_names::{Names, put_bytes};
+use crate::common::key_names::{lay_names, put_bytes};
 use crate::common::path::Path;
 use crate::scan::{Step, StepKind, WindowsPrefix};
 
@@ -52,11 +52,11 @@ fn put_words<T: Encoding>(path: &[u8], out: &mut [u8]) -> usize
         Some(root) => put_step(out, start, root),
         None => start,
     };
-    let mut names = Names::new();
+    let mut block = [0; 64];
     'steps: loop {
-        let run = names.take(&mut body);
-        if !run.is_empty() {
-            at = put_bytes(out, at, run);
+        let count = lay_names(&mut body, &mut block, 0);
+        if count != 0 {
+            at = put_bytes(out, at, &block[..count]);
             continue;
         }
         let Some(step) = body.front() else {

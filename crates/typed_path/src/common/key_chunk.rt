@@ -1,22 +1,24 @@
 //! The bytes of a key on their way to a hasher.
 
-ghost use Rattle.std.specs.Prelude.{◌≡◌, ◌≤◌, [], length};
+ghost use Rattle.std.specs.Prelude.{◌≡◌, ◌≤◌, ◌<◌, ◌++◌, [], IsTrue, false, fold, length};
 
-use crate::common::key_names::put_bytes;
+use crate::common::key_names::{lay_names, put_bytes};
+use crate::scan::Body;
 use std::hash::Hasher;
 
-/// The bytes of a key that a hasher was not fed yet: it is fed 128 at once, since each call of it
-/// costs more than a few bytes.
+/// The bytes of a key that a hasher was not fed yet, up to 128, which it is fed at once; and room
+/// for a block of names after them.
 #[derive(Clone, Copy)]
 pub struct Chunk {
-    bytes: [u8; 128],
+    bytes: [u8; 192],
     used: usize,
-    ghost long: { length bytes ≡ 128 },
+    ghost long: { length bytes ≡ 192 },
     ghost fits: { used ≤ 128 },
 }
 
 impl Chunk {
-    ghost use Rattle.typed_path.specs.order.{AreFed};
+    ghost use Rattle.typed_path.specs.order.{AreFed, chunked, left_key_bytes};
+    ghost use Rattle.typed_path.specs.views.BodyViews.{body_items};
     ghost use Rattle.typed_path.specs.views.KeyViews.{chunk_bytes};
 
     /// Returns a chunk without bytes.
@@ -25,7 +27,7 @@ impl Chunk {
         ensures { chunk_bytes result ≡ [] }
     {
         Chunk {
-            bytes: [0; 128],
+            bytes: [0; 192],
             used: 0,
         }
     }
@@ -57,10 +59,33 @@ impl Chunk {
         'chunks: while 128 - self.used < left.len() {
             let (front, behind) = left.split_at(128 - self.used);
             put_bytes(&mut self.bytes, self.used, front);
-            state.write(&self.bytes);
+            state.write(&self.bytes[..128]);
             self.used = 0;
             left = behind;
         }
         self.used = put_bytes(&mut self.bytes, self.used, left);
+    }
+
+    /// Takes names at the front of `body`, as [`lay_names`] does, and feeds a full chunk. Returns
+    /// whether there were any.
+    #[inline(always)]
+    pub fn put_names<H: Hasher>(&mut self, body: &mut Body<'_>, state: &mut H) -> bool
+        ensures fed { fold H.write state.old (chunked (chunk_bytes self.old ++ left_key_bytes (body_items body.old)))
+            ≡ fold H.write state.new (chunked (chunk_bytes self.new ++ left_key_bytes (body_items body.new))) }
+        ensures fewer { IsTrue result → length (left_key_bytes (body_items body.new))
+            < length (left_key_bytes (body_items body.old)) }
+        ensures none { result ≡ false → (state.new ≡ state.old) × (chunk_bytes self.new ≡ chunk_bytes self.old)
+            × (left_key_bytes (body_items body.new) ≡ left_key_bytes (body_items body.old)) }
+    {
+        let count = lay_names(body, &mut self.bytes, self.used);
+        let end = self.used + count;
+        if end <= 128 {
+            self.used = end;
+            return count != 0;
+        }
+        state.write(&self.bytes[..128]);
+        self.bytes.copy_within(128..192, 0);
+        self.used = end - 128;
+        true
     }
 }

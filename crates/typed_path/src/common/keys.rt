@@ -10,7 +10,6 @@ ghost use Rattle.typed_path.specs.views.PathViews.{path_bytes};
 
 use crate::common::encoding::Encoding;
 use crate::common::key_chunk::Chunk;
-use crate::common::key_names::Names;
 use crate::common::path::Path;
 use crate::common::path_buf::PathBuf;
 use crate::scan::{Step, StepKind, WindowsPrefix};
@@ -101,11 +100,8 @@ fn feed_key<T: Encoding, H: Hasher>(path: &[u8], state: &mut H)
     let mut chunk = Chunk::new();
     feed_prefix(cursor.prefix(), &mut chunk, state);
     let mut body = cursor.body();
-    let mut names = Names::new();
     'steps: loop {
-        let run = names.take(&mut body);
-        if !run.is_empty() {
-            chunk.put(run, state);
+        if chunk.put_names(&mut body, state) {
             continue;
         }
         let Some(step) = body.front() else {
@@ -173,6 +169,7 @@ fn feed_step<H: Hasher>(step: Step<'_>, chunk: &mut Chunk, state: &mut H)
 
 /// Feeds the length of a name and its bytes. Up to 244 the length is one byte that is 10 more,
 /// which is not the number of a kind; a greater one comes after the byte 255, lowest byte first.
+#[inline(always)]
 fn feed_name<H: Hasher>(name: &[u8], chunk: &mut Chunk, state: &mut H)
     ensures { AreFed H.write (concat (length_prefixed name.now))
         state.old (chunk_bytes chunk.old) (chunk_bytes chunk.new) state.new }

@@ -534,6 +534,8 @@ impl<'a> Body<'a> {
         requires clean { is_clean Begin.Inside self.separators (drop count (body_slice self)) ≡ true }
         ensures items { body_items result ≡ later_body self.entry.separators (self.entry.from + count)
             (drop count (body_slice self.entry)) }
+        ensures slice { body_slice result ≡ drop count (body_slice self.entry) }
+        ensures separators { result.separators ≡ self.entry.separators }
     {
         Body {
             text: self.text,
@@ -649,7 +651,7 @@ impl<'a> Body<'a> {
     /// Takes the first component left and returns it. Its segment ends at index `end` of the slice
     /// left.
     #[inline(always)]
-    fn take_segment(&mut self, end: usize) -> Step<'a>
+    pub fn take_segment(&mut self, end: usize) -> Step<'a>
         requires some { 0 < length (body_slice self.old) }
         requires within { end ≤ length (body_slice self.old) }
         requires ends { end ≡ position_or_len (is_separator self.old.separators) (body_slice self.old) }

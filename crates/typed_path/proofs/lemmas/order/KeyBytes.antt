@@ -1,5 +1,5 @@
 -- The words of keys as bytes: how many they are, and how they come into a buffer one behind the other.
-use Rattle.std.proofs.Common.{◌≡◌, ℕ, ◌+◌, ◌*◌, ◌≤◌, ◌<◌, ◌==◌, eqb-true, Bool, true, false, List, [], ◌∷◌, ◌++◌, length, take, drop, Option, Some, None, refl, sym, ap, ◌∙◌, arith, subst, append-nil, if◌then◌else◌, length-take-le, length-append, take_at, drop_at, take-append-drop}
+use Rattle.std.proofs.Common.{◌≡◌, ℕ, ◌+◌, ◌*◌, ◌≤◌, ◌<◌, ◌==◌, Bool, true, false, List, [], ◌∷◌, ◌++◌, length, take, drop, Option, Some, None, refl, sym, ap, ◌∙◌, arith, subst, append-nil, if◌then◌else◌, length-take-le, length-append, take_at, drop_at, take-append-drop}
 use Rattle.std.specs.Prelude.{nat_lt}
 use Rattle.std.specs.List.{concat, flat_map, AllByRecursion}
 use Rattle.std.specs.Hash.{u8, usize, le_bytes}
@@ -252,10 +252,11 @@ module _ (all old : List ℕ) where
       omega (arith, ap length so_far.split, length-append so_far.gone (left_key_bytes cs), ap length left, length-append run (left_key_bytes ds), so_far.put.ends)
 
   -- no bytes were put, and the same ones are left
-  pub put_no_run : (cs ds : List Placed) (run out : List ℕ) (at : ℕ) (none : Bool) → none ≡ (length run == 0) → none ≡ true → left_key_bytes cs ≡ run ++ left_key_bytes ds → IsPutSoFar all old cs out at
+  pub put_no_run : (cs ds : List Placed) (block out : List ℕ) (at count : ℕ) → count ≡ 0 → left_key_bytes cs ≡ take count block ++ left_key_bytes ds → IsPutSoFar all old cs out at
       → IsPutSoFar all old ds out at × (length (left_key_bytes ds) ≡ length (left_key_bytes cs))
-  put_no_run cs ds [] out at none is empties left so_far = (put_run cs ds [] out out at at left so_far (put_none at out), ap length (sym left))
-  put_no_run cs ds (b ∷ run) out at none is empties left so_far = absurd (omega (arith, eqb-true (length (b ∷ run)) 0 (sym is ∙ empties)))
+  put_no_run cs ds block out at count none left so_far =
+      let same = left ∙ ap (λ n. take n block ++ left_key_bytes ds) none in
+      (put_run cs ds [] out out at at same so_far (put_none at out), ap length (sym same))
 
   -- all were put, and the word behind them
   pub put_last : (cs : List Placed) (out new : List ℕ) (at end : ℕ) → None ≡ first_part cs → IsPutSoFar all old cs out at → IsPutFrom at (0 ∷ []) out new end → IsPutFrom 0 all old new end

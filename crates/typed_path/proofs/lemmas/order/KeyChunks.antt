@@ -1,9 +1,11 @@
 -- The bytes of a key as they are fed to a hasher, so many a word.
-use Rattle.std.proofs.Common.{◌≡◌, ℕ, zero, suc, ◌+◌, ◌^◌, ◌<◌, ◌≤◌, ◌==◌, Bool, true, false, List, [], ◌∷◌, ◌++◌, length, take, drop, fold, Option, Some, None, refl, sym, ap, ◌∙◌, arith, subst, if◌then◌else◌, append-nil, length-append, length-drop, eqb-true}
+use Rattle.std.proofs.Common.{◌≡◌, ℕ, zero, suc, ◌+◌, ◌-◌, ◌^◌, ◌<◌, ◌≤◌, Bool, true, false, List, [], ◌∷◌, ◌++◌, length, take, drop, fold, Option, Some, None, refl, sym, ap, ◌∙◌, arith, subst, if◌then◌else◌, append-nil, length-append, length-drop, length-take-le}
 use Rattle.std.specs.Prelude.{nat_lt}
 use Rattle.std.specs.List.{concat}
+use Rattle.std.proofs.Math.Seq.{paste, take-add}
+use Rattle.std.proofs.lemmas.List.Edits.{paste_all}
 use Rattle.std.proofs.lemmas.Bool.{lt-ltb, le-ltb}
-use Rattle.std.proofs.lemmas.List.{append_assoc, take_at, drop_at, take-append-drop, drop_all}
+use Rattle.std.proofs.lemmas.List.{append_assoc, take_at, drop_at, take-append-drop, take-append-le}
 use Rattle.typed_path.specs.components.{Dialect, Part, Placed, Prefix, kinds, parts}
 use Rattle.typed_path.specs.scan.{first_part}
 use Rattle.typed_path.specs.queries.{first_prefix, behind_prefix}
@@ -61,16 +63,18 @@ fed_alike d t u fits other_fits = (
 )
 
 -- bytes that fill a chunk
-pub chunk-filled : (old front new : List ℕ) (used end : ℕ) → length old ≡ 128 → used + length front ≡ 128 → IsPutFrom used front old new end → (new ≡ take used old ++ front) × (length new ≡ 128)
-chunk-filled old front new used end size whole put =
-    let ends : end ≡ length old = omega (arith, put.ends, size, whole) in
-    (put.put (omega (arith, ends)) ∙ ap (λ n. take used old ++ front ++ drop n old) ends ∙ ap (λ xs. take used old ++ front ++ xs) (drop_all (length old) old (omega arith)) ∙ append-nil (take used old ++ front),
-    put.long ∙ size)
+pub chunk-filled : (old front new : List ℕ) (used end : ℕ) → 128 ≤ length old → used + length front ≡ 128 → IsPutFrom used front old new end → (take 128 new ≡ take used old ++ front) × (length (take 128 new) ≡ 128)
+chunk-filled old front new used end room whole put =
+    let ends : end ≡ 128 = omega (arith, put.ends, whole) in
+    let size : length (take used old ++ front) ≡ 128 = omega (arith, length-append (take used old) front, length-take-le used old (omega (arith, room, whole)), whole) in
+    (ap (take 128) (put.put (omega (arith, ends, room))) ∙ take_at (take used old ++ front) (drop end old) 128 size,
+    length-take-le 128 new (omega (arith, put.long, room)))
 
--- no bytes were taken
-pub chunk-none : (run : List ℕ) (none : Bool) (cs ds : List Placed) → none ≡ (length run == 0) → none ≡ true → left_key_bytes cs ≡ run ++ left_key_bytes ds → left_key_bytes cs ≡ left_key_bytes ds
-chunk-none [] none cs ds is empties left = left
-chunk-none (b ∷ run) none cs ds is empties left = absurd (omega (arith, eqb-true (length (b ∷ run)) 0 (sym is ∙ empties)))
+-- bytes that stand behind a full chunk are brought to its front
+pub chunk-brought : (bytes : List ℕ) (n : ℕ) → length bytes ≡ 192 → n ≤ 64 → take n (paste bytes 0 (drop 128 bytes) 64) ≡ take n (drop 128 bytes)
+chunk-brought bytes n size low =
+    let rest : length (drop 128 bytes) ≡ 64 = omega (arith, length-drop 128 bytes, size) in
+    ap (take n) (paste_all bytes 0 (drop 128 bytes) 64 (sym rest)) ∙ take-append-le n (drop 128 bytes) (drop (0 + 64) bytes) (omega (arith, rest, low))
 
 module _ {S : Type 0} (write : S → List ℕ → S) where
   -- nothing was fed
@@ -112,6 +116,25 @@ module _ {S : Type 0} (write : S → List ℕ → S) where
   chunk-prefix s t all w cs ds o is first behind fed =
       ap (λ bs. fold write s (chunked bs)) (is ∙ prefix-split cs ∙ (λ i. concat (key_words_before (sym first i)) ++ left_key_bytes (sym behind i)))
       ∙ fed (left_key_bytes ds)
+
+  -- names were laid out behind the bytes that wait
+  module _ (bytes new : List ℕ) (used count : ℕ) (cs ds : List Placed) (kept : take used new ≡ take used bytes) (laid : left_key_bytes cs ≡ take count (drop used new) ++ left_key_bytes ds) where
+    pub names-wait : take used bytes ++ left_key_bytes cs ≡ take (used + count) new ++ left_key_bytes ds
+    names-wait =
+        ap (λ xs. xs ++ left_key_bytes cs) (sym kept) ∙ ap (λ xs. take used new ++ xs) laid ∙ sym (append_assoc (take used new) (take count (drop used new)) (left_key_bytes ds))
+        ∙ ap (λ xs. xs ++ left_key_bytes ds) (sym (take-add used count new))
+
+    -- a full chunk of them is fed
+    pub names-fed : (s t : S) → length new ≡ 192 → used + count ≤ 192 → 128 < used + count → t ≡ write s (take 128 new)
+        → fold write s (chunked (take used bytes ++ left_key_bytes cs)) ≡ fold write t (chunked (take (used + count - 128) (drop 128 new) ++ left_key_bytes ds))
+    names-fed s t size within over wrote =
+        let behind = take (used + count - 128) (drop 128 new) in
+        let parted : used + count ≡ 128 + (used + count - 128) = omega (arith, over) in
+        let full : length (take 128 new) ≡ 128 = length-take-le 128 new (omega (arith, size)) in
+        let some : length behind ≡ used + count - 128 = length-take-le (used + count - 128) (drop 128 new) (omega (arith, within, size, length-drop 128 new)) in
+        ap (λ bs. fold write s (chunked bs)) (names-wait ∙ ap (λ n. take n new ++ left_key_bytes ds) parted ∙ ap (λ xs. xs ++ left_key_bytes ds) (take-add 128 (used + count - 128) new) ∙ append_assoc (take 128 new) behind (left_key_bytes ds))
+        ∙ ap (fold write s) (chunked-full (take 128 new) (behind ++ left_key_bytes ds) full (omega (arith, some, over, length-append behind (left_key_bytes ds))))
+        ∙ ap (λ u. fold write u (chunked (behind ++ left_key_bytes ds))) (sym wrote)
 
   -- a run of bytes was
   pub chunk-run : (s t : S) (w x run : List ℕ) (cs ds : List Placed) → left_key_bytes cs ≡ run ++ left_key_bytes ds → AreFed write run s w x t

@@ -1,12 +1,12 @@
 -- Names that stand side by side in a text, laid out as a key has them.
-use Rattle.std.proofs.Common.{◌≡◌, ℕ, ◌+◌, ◌-◌, ◌^◌, ◌/◌, ◌<◌, ◌≤◌, ◌==◌, ◌&&◌, ◌||◌, Bool, true, false, List, [], ◌∷◌, ◌++◌, length, take, drop, get_or, refl, sym, ap, ◌∙◌, arith, subst, cond, if◌then◌else◌, length-drop, length-take-le, take_all, append-nil, ⊎_elim, set, suc}
+use Rattle.std.proofs.Common.{◌≡◌, ℕ, ◌+◌, ◌-◌, ◌^◌, ◌/◌, ◌<◌, ◌≤◌, ◌==◌, ◌&&◌, ◌||◌, Bool, true, false, List, [], ◌∷◌, ◌++◌, length, take, drop, get_or, refl, sym, ap, ◌∙◌, arith, subst, cond, if◌then◌else◌, length-append, length-drop, length-take-le, take_all, append-nil, ⊎_elim, set, suc}
 use Rattle.std.specs.Prelude.{replicate}
 use Rattle.std.specs.List.{concat, before_first, position_or_len}
 use Rattle.std.specs.Hash.{u8, usize}
 use Rattle.std.specs.Int.{bit_at}
 use Rattle.std.proofs.lemmas.Bool.{lt-ltb, or_parts, cases_lt}
-use Rattle.std.proofs.lemmas.List.{append_assoc, drop-drop, drop-take, drop-replicate, drop_more, drop_all, take-take, take-append-le, set_split, drop-set-lt, length-set, get_or-take, get_or-drop, get_or_append_left, get_or-append_right, get_or-replicate}
-use Rattle.std.proofs.Math.Seq.{take-append-add}
+use Rattle.std.proofs.lemmas.List.{append_assoc, drop-drop, drop-take, drop-replicate, drop_more, drop_all, take-take, take-append-le, take_at, drop_at, drop-append-le, set_split, drop-set-lt, drop-set-add, length-replicate, length-set, get_or-take, get_or-drop, get_or_append_left, get_or-append_right, get_or-replicate}
+use Rattle.std.proofs.Math.Seq.{take-append-add, take-set-lt}
 use Rattle.std.proofs.lemmas.Nat.{shr-shr}
 use Rattle.std.proofs.lemmas.List.Sums.{position_or_len_is}
 use Rattle.typed_path.specs.declared.scan.separators.Separators.{Separators}
@@ -36,6 +36,59 @@ pub record IsLaidOut (s : Separators) (pair : ℕ × ℕ) (all left : List ℕ) 
   pub behind : drop (begin + 1) block ≡ drop begin (padded pair left size)
   pub marked : IsMask (λ k. is_one_of pair (get_or (padded pair left size) (begin + k) 0)) (63 - begin) marks
   pub named : is_name_piece (before_first (is_separator s) (drop begin left)) ≡ true
+
+-- A block within a longer buffer.
+
+abbrev pub window : ℕ → List ℕ → List ℕ
+window at buffer = take 64 (drop at buffer)
+
+module _ (at : ℕ) (buffer : List ℕ) (room : at + 64 ≤ length buffer) where
+  pub window-long : length (window at buffer) ≡ 64
+  window-long = length-take-le 64 (drop at buffer) (omega (arith, room, length-drop at buffer))
+
+  pub window-at : (k : ℕ) → k < 64 → get_or (window at buffer) k 0 ≡ get_or buffer (at + k) 0
+  window-at k low = get_or-take 64 (drop at buffer) k 0 low ∙ get_or-drop at buffer k 0
+
+  pub window-set : (k v : ℕ) → k < 64 → window at (set buffer (at + k) v) ≡ set (window at buffer) k v
+  window-set k v low = ap (take 64) (drop-set-add at buffer k v) ∙ take-set-lt 64 (drop at buffer) k v low
+
+  pub window-front : (n : ℕ) → n ≤ 64 → take n (window at buffer) ≡ take n (drop at buffer)
+  window-front n low = take-take n 64 (drop at buffer) low
+
+-- separators, and a text one place behind the first of them
+pub windowed : (at size middle end x : ℕ) (left old half new : List ℕ) → at + 64 ≤ length old → size ≤ length left → size ≤ 61
+    → IsPutFrom at (replicate 64 x) old half middle → IsPutFrom (at + 1) (take size left) half new end
+    → (length new ≡ length old) × (take at new ≡ take at old) × (drop 1 (window at new) ≡ take size left ++ replicate (63 - size) x)
+windowed at size middle end x left old half new room within small first second =
+    let middle-is : middle ≡ at + 64 = first.ends in
+    let taken : length (take size left) ≡ size = length-take-le size left within in
+    let end-is : end ≡ at + 1 + size = omega (arith, second.ends, taken) in
+    let half-is = first.put (omega (arith, middle-is, room)) in
+    let new-is = second.put (omega (arith, end-is, small, room, first.long)) in
+    let front-long : length (take at old) ≡ at = length-take-le at old (omega (arith, room)) in
+    let front : take at half ≡ take at old = ap (take at) (half-is ∙ append_assoc (take at old) (replicate 64 x) (drop middle old)) ∙ take_at (take at old) (replicate 64 x ++ drop middle old) at front-long in
+    let behind : drop at half ≡ replicate 64 x ++ drop middle old = ap (drop at) (half-is ∙ append_assoc (take at old) (replicate 64 x) (drop middle old)) ∙ drop_at (take at old) (replicate 64 x ++ drop middle old) at front-long in
+    let more-long : length (take (at + 1) half) ≡ at + 1 = length-take-le (at + 1) half (omega (arith, room, first.long)) in
+    let rest : drop end half ≡ replicate (63 - size) x ++ drop middle old =
+        ap (λ n. drop n half) end-is ∙ ap (λ n. drop n half) (there-is at size) ∙ sym (drop-drop (1 + size) at half) ∙ ap (drop (1 + size)) behind
+        ∙ drop-append-le (1 + size) (replicate 64 x) (drop middle old) (omega (arith, small)) ∙ ap (λ xs. xs ++ drop middle old) (drop-replicate (1 + size) 64 x ∙ ap (λ n. replicate n x) (left-over size)) in
+    let put : drop (at + 1) new ≡ (take size left ++ replicate (63 - size) x) ++ drop middle old =
+        ap (drop (at + 1)) (new-is ∙ append_assoc (take (at + 1) half) (take size left) (drop end half)) ∙ drop_at (take (at + 1) half) (take size left ++ drop end half) (at + 1) more-long
+        ∙ ap (λ xs. take size left ++ xs) rest ∙ sym (append_assoc (take size left) (replicate (63 - size) x) (drop middle old)) in
+    (second.long ∙ first.long,
+    ap (take at) (new-is ∙ append_assoc (take (at + 1) half) (take size left) (drop end half)) ∙ take-append-le at (take (at + 1) half) (take size left ++ drop end half) (omega (arith, more-long))
+    ∙ take-take at (at + 1) half (omega arith) ∙ front,
+    drop-take 1 63 (drop at new) ∙ ap (take 63) (drop-drop 1 at new ∙ put)
+    ∙ take_at (take size left ++ replicate (63 - size) x) (drop middle old) 63 (length-append (take size left) (replicate (63 - size) x) ∙ ap (λ n. n + length (replicate (63 - size) x)) taken ∙ ap (λ n. size + n) (length-replicate (63 - size) x) ∙ whole-is size small))
+  where
+    there-is : (a b : ℕ) → a + 1 + b ≡ a + (1 + b)
+    there-is a b = omega arith
+
+    left-over : (b : ℕ) → 64 - (1 + b) ≡ 63 - b
+    left-over b = omega arith
+
+    whole-is : (b : ℕ) → b ≤ 61 → b + (63 - b) ≡ 63
+    whole-is b low = omega (arith, low)
 
 -- What names feed.
 
@@ -70,6 +123,15 @@ keyed-name s text name behind is rest named short =
     ∙ fed-split (record { part = name_part name; start = 0 }) (later_body s (0 + position_or_len (is_separator s) text) behind)
     ∙ ap (λ xs. concat (length_prefixed name) ++ xs) (keyed-anywhere s (0 + position_or_len (is_separator s) text) behind)
     ∙ ap (λ xs. xs ++ keyed s behind) (short-prefixed name short)
+
+-- and what is left of the components behind it
+pub behind-name : (s : Separators) (at : ℕ) (text : List ℕ) → is_name_piece (before_first (is_separator s) text) ≡ true
+    → left_key_bytes (drop 1 (later_body s at text)) ≡ keyed s (drop (position_or_len (is_separator s) text) text)
+behind-name s at text named =
+    let name = before_first (is_separator s) text in
+    let n = position_or_len (is_separator s) text in
+    ap (λ cs. left_key_bytes (drop 1 cs)) (later_body-first s at text ∙ ap (λ cs. cs ++ later_body s (at + n) (drop n text)) (later-name s name at named))
+    ∙ keyed-anywhere s (at + n) (drop n text)
 
 -- a separator feeds nothing
 keyed-separator : (s : Separators) (x : ℕ) (text : List ℕ) → is_separator s x ≡ true → keyed s (x ∷ text) ≡ keyed s text
@@ -174,24 +236,18 @@ module _ (s : Separators) (pair : ℕ × ℕ) (same : (b : ℕ) → is_separator
           ∙ keyed-begun begin s at (get_or left 0 0) (drop 1 left) (ap (λ xs. is_name_piece (before_first (is_separator s) xs)) (sym first) ∙ begun-named)
           ∙ ap (keyed s) (sym first)
 
-      pub begun : (begin : Begin) (at marks end : ℕ) (old block : List ℕ) → old ≡ replicate 64 pair.0 → IsPutFrom 1 (take size left) old block end → IsMask (λ k. stands_at pair block (0 + k)) 64 marks
-          → IsLaidOut s pair (left_key_bytes (body_from begin s at left)) left size block (marks / 2) 0
-      begun begin at marks end old block all put marked =
-          let taken = length-take-le size left within in
-          let room : length old ≡ 64 = ap length all in
-          let whole = put.put (omega (arith, put.ends, taken, small, room)) in
-          let rest : 64 - (1 + size) ≡ 63 - size = omega arith in
-          let behind : drop 1 block ≡ padded pair left size =
-              ap (drop 1) (whole ∙ ap (λ o. take 1 o ++ take size left ++ drop end o) all)
-              ∙ ap (λ xs. take size left ++ xs) (ap (λ n. drop n (replicate 64 pair.0)) (put.ends ∙ ap (λ n. 1 + n) taken) ∙ drop-replicate (1 + size) 64 pair.0 ∙ ap (λ n. replicate n pair.0) rest) in
+      pub begun : (begin : Begin) (from at marks : ℕ) (block whole : List ℕ) → length block ≡ 64 → drop 1 block ≡ padded pair left size → ((k : ℕ) → k < 64 → get_or block k 0 ≡ get_or whole (at + k) 0)
+          → IsMask (λ k. stands_at pair whole (at + k)) 64 marks → IsLaidOut s pair (left_key_bytes (body_from begin s from left)) left size block (marks / 2) 0
+      begun begin from at marks block whole long behind there marked =
+          let own : IsMask (λ k. stands_at pair block k) 64 marks = record { within = λ k low. marked.within k low ∙ ap (λ b. if is_one_of pair b then 1 else 0) (sym (there k low)); beyond = marked.beyond } in
           record {
             short = omega (arith, two_or_more);
-            long = put.long ∙ room;
-            laid = begun-keyed begin at;
+            long = long;
+            laid = begun-keyed begin from;
             behind = behind;
-            marked = mask-alike (λ k. stands_at pair block (0 + (1 + k))) (λ k. is_one_of pair (get_or (padded pair left size) (0 + k) 0)) 63 (marks / 2)
-                (λ k. ap (λ n. is_one_of pair (get_or (padded pair left size) n 0)) (omega arith) ∙ ap (λ xs. is_one_of pair (get_or xs k 0)) (sym behind) ∙ ap (is_one_of pair) (get_or-drop 1 block k 0) ∙ ap (stands_at pair block) (omega arith))
-                (mask-behind (λ k. stands_at pair block (0 + k)) 1 63 marks marked);
+            marked = mask-alike (λ k. stands_at pair block (1 + k)) (λ k. is_one_of pair (get_or (padded pair left size) (0 + k) 0)) 63 (marks / 2)
+                (λ k. ap (λ n. is_one_of pair (get_or (padded pair left size) n 0)) (omega arith) ∙ ap (λ xs. is_one_of pair (get_or xs k 0)) (sym behind) ∙ ap (is_one_of pair) (get_or-drop 1 block k 0))
+                (mask-behind (λ k. stands_at pair block k) 1 63 marks own);
             named = begun-named;
           }
 
@@ -257,6 +313,21 @@ module _ (s : Separators) (pair : ℕ × ℕ) (same : (b : ℕ) → is_separator
               (ap (λ n. is_name_piece (take n own)) (sym length-is) ∙ laid.named) (omega (arith, name-long, within_it, small))
               ∙ ap (λ n. (10 + n) ∷ take len own ++ keyed s (drop len own)) name-long
               ∙ ap (λ xs. (10 + len) ∷ take len own ++ xs) (ap (keyed s) stands ∙ keyed-separator s (get_or own len 0) (drop (len + 1) own) separates ∙ ap (keyed s) (drop-drop (len + 1) begin left ∙ ap (λ n. drop n left) (omega arith)))
+
+          -- the length of a name was put, and no name follows at once
+          pub parted-laid : (at : ℕ) → all ≡ take (begin + 1 + len) (set block begin (10 + len)) ++ left_key_bytes (drop 1 (later_body s at own))
+          parted-laid at =
+              laid.laid
+              ∙ ap (λ xs. take begin block ++ xs) (keyed-name s own (take len own) (drop len own) (ap (λ n. take n own) (sym length-is)) (ap (λ n. drop n own) (sym length-is))
+                  (ap (λ n. is_name_piece (take n own)) (sym length-is) ∙ laid.named) (omega (arith, name-long, within_it, small))
+                  ∙ ap (λ n. (10 + n) ∷ take len own ++ keyed s (drop len own)) name-long)
+              ∙ sym (append_assoc (take begin block) ((10 + len) ∷ take len own) (keyed s (drop len own)))
+              ∙ ap (λ xs. xs ++ keyed s (drop len own)) (sym (put-front len (10 + len) (omega (arith, within_it))))
+              ∙ ap (λ xs. take (begin + 1 + len) (set block begin (10 + len)) ++ xs) (ap (λ n. keyed s (drop n own)) (sym length-is) ∙ sym (behind-name s at own laid.named))
+
+          -- where its separator stands
+          pub ends-at : len ≡ position_or_len (is_separator s) own
+          ends-at = sym length-is
 
           block-at : (k : ℕ) → begin ≤ k → get_or block (k + 1) 0 ≡ get_or (padded pair left size) k 0
           block-at k low =

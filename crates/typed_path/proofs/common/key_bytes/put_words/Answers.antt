@@ -1,4 +1,4 @@
-use Rattle.std.proofs.Common.{option_map, sym, ap, arith, subst}
+use Rattle.std.proofs.Common.{option_map, sym, ap, arith, subst, take}
 use Rattle.typed_path.specs.order.{key_bytes, left_key_bytes}
 use Rattle.typed_path.specs.views.BodyViews.{body_items}
 use Rattle.typed_path.specs.views.CursorViews.{items_left}
@@ -47,46 +47,46 @@ pub put_bytes-at-requires : goal.put_bytes-at-requires
 put_bytes-at-requires g c =
     let d = g.T.Encoding.dialect in
     let path = c.args.path.now in
-    let fits = run_fits (key_bytes d path) c.args.out.now (body_items c.steps.body) (body_items c.take-run.new.body) c.take-run.result.now c.steps.out c.steps.at c.take-run.ensures c.steps.invariant in
+    let fits = run_fits (key_bytes d path) c.args.out.now (body_items c.steps.body) (body_items c.lay_names-count.new.body) (take c.lay_names-count.result c.lay_names-count.new.block) c.steps.out c.steps.at c.lay_names-count.ensures.laid c.steps.invariant in
     omega (arith, fits, key_bytes_size d path, c.well_formed.0.1)
 
-pub steps-preserved-then-not-is_empty : goal.steps-preserved-then-not-is_empty
-steps-preserved-then-not-is_empty g c =
-    put_run (key_bytes g.T.Encoding.dialect c.args.path.now) c.args.out.now (body_items c.steps.body) (body_items c.take-run.new.body) c.take-run.result.now c.steps.out c.put_bytes-at.new.out c.steps.at c.put_bytes-at.result
-    c.take-run.ensures c.steps.invariant c.put_bytes-at.ensures
+pub steps-preserved-then-count-ne0 : goal.steps-preserved-then-count-ne0
+steps-preserved-then-count-ne0 g c =
+    put_run (key_bytes g.T.Encoding.dialect c.args.path.now) c.args.out.now (body_items c.steps.body) (body_items c.lay_names-count.new.body) (take c.lay_names-count.result c.lay_names-count.new.block) c.steps.out c.put_bytes-at.new.out c.steps.at c.put_bytes-at.result
+    c.lay_names-count.ensures.laid c.steps.invariant c.put_bytes-at.ensures
 
 pub put_step-at-requires-in-steps : goal.put_step-at-requires-in-steps
 put_step-at-requires-in-steps g c =
     let d = g.T.Encoding.dialect in
     let path = c.args.path.now in
-    let same = put_no_run (key_bytes d path) c.args.out.now (body_items c.steps.body) (body_items c.take-run.new.body) c.take-run.result.now c.steps.out c.steps.at c.is_empty.result c.is_empty.ensures c.if-not-is_empty.false c.take-run.ensures c.steps.invariant in
-    let fits = more_fits (key_bytes d path) c.args.out.now (body_items c.take-run.new.body) (step_part c.in-Some-front.step) c.steps.out c.steps.at c.in-Some-front.ensures.taken same.0 in
+    let same = put_no_run (key_bytes d path) c.args.out.now (body_items c.steps.body) (body_items c.lay_names-count.new.body) c.lay_names-count.new.block c.steps.out c.steps.at c.lay_names-count.result c.if-count-ne0.false c.lay_names-count.ensures.laid c.steps.invariant in
+    let fits = more_fits (key_bytes d path) c.args.out.now (body_items c.lay_names-count.new.body) (step_part c.in-Some-front.step) c.steps.out c.steps.at c.in-Some-front.ensures.taken same.0 in
     omega (arith, fits, key_bytes_size d path, c.well_formed.0.1)
 
 pub steps-smaller : goal.steps-smaller
 steps-smaller g c =
     let all = key_bytes g.T.Encoding.dialect c.args.path.now in
-    let same = put_no_run all c.args.out.now (body_items c.steps.body) (body_items c.take-run.new.body) c.take-run.result.now c.steps.out c.steps.at c.is_empty.result c.is_empty.ensures c.if-not-is_empty.false c.take-run.ensures c.steps.invariant in
-    omega (arith, same.1, fewer_bytes (body_items c.take-run.new.body) (body_items c.front.new.self) (step_part c.in-Some-front.step) c.in-Some-front.ensures.taken c.in-Some-front.ensures.items)
+    let same = put_no_run all c.args.out.now (body_items c.steps.body) (body_items c.lay_names-count.new.body) c.lay_names-count.new.block c.steps.out c.steps.at c.lay_names-count.result c.if-count-ne0.false c.lay_names-count.ensures.laid c.steps.invariant in
+    omega (arith, same.1, fewer_bytes (body_items c.lay_names-count.new.body) (body_items c.front.new.self) (step_part c.in-Some-front.step) c.in-Some-front.ensures.taken c.in-Some-front.ensures.items)
 
 pub steps-preserved : goal.steps-preserved
 steps-preserved g c =
     let all = key_bytes g.T.Encoding.dialect c.args.path.now in
-    let same = put_no_run all c.args.out.now (body_items c.steps.body) (body_items c.take-run.new.body) c.take-run.result.now c.steps.out c.steps.at c.is_empty.result c.is_empty.ensures c.if-not-is_empty.false c.take-run.ensures c.steps.invariant in
-    put_more all c.args.out.now (body_items c.take-run.new.body) (body_items c.front.new.self) (step_part c.in-Some-front.step)
+    let same = put_no_run all c.args.out.now (body_items c.steps.body) (body_items c.lay_names-count.new.body) c.lay_names-count.new.block c.steps.out c.steps.at c.lay_names-count.result c.if-count-ne0.false c.lay_names-count.ensures.laid c.steps.invariant in
+    put_more all c.args.out.now (body_items c.lay_names-count.new.body) (body_items c.front.new.self) (step_part c.in-Some-front.step)
     c.steps.out c.put_step-at-in-steps.new.out c.steps.at c.put_step-at-in-steps.result c.in-Some-front.ensures.taken c.in-Some-front.ensures.items same.0 c.put_step-at-in-steps.ensures
 
 pub put_bytes-requires : goal.put_bytes-requires
 put_bytes-requires g c =
     let d = g.T.Encoding.dialect in
     let path = c.args.path.now in
-    let same = put_no_run (key_bytes d path) c.args.out.now (body_items c.steps.body) (body_items c.take-run.new.body) c.take-run.result.now c.steps.out c.steps.at c.is_empty.result c.is_empty.ensures c.if-not-is_empty.false c.take-run.ensures c.steps.invariant in
-    let fits = last_fits (key_bytes d path) c.args.out.now (body_items c.take-run.new.body) c.steps.out c.steps.at c.in_default.ensures.taken same.0 in
+    let same = put_no_run (key_bytes d path) c.args.out.now (body_items c.steps.body) (body_items c.lay_names-count.new.body) c.lay_names-count.new.block c.steps.out c.steps.at c.lay_names-count.result c.if-count-ne0.false c.lay_names-count.ensures.laid c.steps.invariant in
+    let fits = last_fits (key_bytes d path) c.args.out.now (body_items c.lay_names-count.new.body) c.steps.out c.steps.at c.in_default.ensures.taken same.0 in
     omega (arith, fits, key_bytes_size d path, c.well_formed.0.1)
 
 pub returns : goal.returns
 returns g c =
     let all = key_bytes g.T.Encoding.dialect c.args.path.now in
-    let same = put_no_run all c.args.out.now (body_items c.steps.body) (body_items c.take-run.new.body) c.take-run.result.now c.steps.out c.steps.at c.is_empty.result c.is_empty.ensures c.if-not-is_empty.false c.take-run.ensures c.steps.invariant in
-    put_last all c.args.out.now (body_items c.take-run.new.body) c.steps.out c.put_bytes.new.out c.steps.at c.put_bytes.result
+    let same = put_no_run all c.args.out.now (body_items c.steps.body) (body_items c.lay_names-count.new.body) c.lay_names-count.new.block c.steps.out c.steps.at c.lay_names-count.result c.if-count-ne0.false c.lay_names-count.ensures.laid c.steps.invariant in
+    put_last all c.args.out.now (body_items c.lay_names-count.new.body) c.steps.out c.put_bytes.new.out c.steps.at c.put_bytes.result
     c.in_default.ensures.taken same.0 c.put_bytes.ensures
