@@ -1765,6 +1765,8 @@ OF_TEXTS(asked_other, is_within, 0)
 #define WITH_WORDS(name, doc) {#name, FAST(path_##name), METH_FASTCALL, doc}
 
 static PyMethodDef path_methods[] = {
+    {"with_segments", path_with_segments, METH_VARARGS, DOC_with_segments},
+    {"_of", path__of, METH_O | METH_CLASS, NULL},
     ALONE(normalize, DOC_normalize),
     ALONE(clean, DOC_clean),
     ALONE(to_ascii_lowercase, DOC_to_ascii_lowercase),
@@ -1807,8 +1809,6 @@ static PyMethodDef path_methods[] = {
     WITH_WORDS(_convert, NULL),
     WITH_WORDS(_batch, NULL),
     WITH_WORDS(_batch_into, NULL),
-    {"with_segments", path_with_segments, METH_VARARGS, DOC_with_segments},
-    {"_of", path__of, METH_O | METH_CLASS, NULL},
     {NULL, NULL, 0, NULL},
 };
 
@@ -1844,10 +1844,15 @@ static PyType_Slot path_slots[] = {
     {Py_tp_getset, path_properties},
     {0, NULL},
 };
+/* What each of the two types has itself too, since Python calls what is of the very type of an object soonest: all but the
+   first two, of which a class has its own or that above. */
+#define OWN_METHODS (path_methods + 2)
 static PyType_Slot unix_slots[] = {
-    {Py_tp_doc, DOC_UnixPath}, {Py_tp_new, unix_new}, {Py_tp_dealloc, path_dealloc}, {0, NULL}};
+    {Py_tp_doc, DOC_UnixPath}, {Py_tp_new, unix_new}, {Py_tp_dealloc, path_dealloc}, {Py_tp_methods, OWN_METHODS},
+    {Py_tp_getset, path_properties}, {0, NULL}};
 static PyType_Slot windows_slots[] = {
-    {Py_tp_doc, DOC_WindowsPath}, {Py_tp_new, windows_new}, {Py_tp_dealloc, path_dealloc}, {0, NULL}};
+    {Py_tp_doc, DOC_WindowsPath}, {Py_tp_new, windows_new}, {Py_tp_dealloc, path_dealloc}, {Py_tp_methods, OWN_METHODS},
+    {Py_tp_getset, path_properties}, {0, NULL}};
 
 #define SPEC(name, slots) {"typed_path." name, sizeof(Path), 0, Py_TPFLAGS_DEFAULT | Py_TPFLAGS_BASETYPE, slots}
 
