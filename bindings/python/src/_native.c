@@ -5,8 +5,8 @@
    class that is written in Python is looked at by the garbage collector, and these hold nothing that could hold them.
 
    The module is compiled for the limited API of Python 3.8, so one file serves each later Python. It has no state but
-   what is the same in each interpreter of a process: a key for hashes, and what the text of paths is encoded by. So
-   interpreters may have a lock each. A type is known by the function that makes its objects, since a module for 3.8
+   what is the same in each interpreter of a process: a key for hashes, what the text of paths is encoded by, and the texts
+   of roots. So interpreters may have a lock each. A type is known by the function that makes its objects, since a module for 3.8
    can't be asked by what a type was made. */
 #define PY_SSIZE_T_CLEAN
 #ifndef Py_LIMITED_API
@@ -14,6 +14,7 @@
 #endif
 #include <Python.h>
 #include <pthread.h>
+#include <stdatomic.h>
 #include <string.h>
 #include <typed_path.h>
 #include <unistd.h>
@@ -55,6 +56,11 @@ static bool has_key;
 static pthread_once_t key_once = PTHREAD_ONCE_INIT;
 
 static const char *const separators[2] = {"/", "\\"};
+
+/* The text of no root and of a root, in each dialect. Python has one object of each in a process, which never ends where
+   interpreters have a lock each; 3.10 has one in each interpreter. They are shared while all that were met have the same. */
+static PyObject *roots[2][2];
+static atomic_bool are_roots_shared;
 
 /* What a path was asked, and keeps: a bit of `asked`, and of `answers`. The answer to the last one is whether a root stands
    behind the prefix. */
@@ -459,11 +465,17 @@ static size_t anchor_of(uint32_t dialect, const Text *path, bool *has_root)
     return len;
 }
 
+/* The text of a root, or of none. */
+static PyObject *root_of(uint32_t dialect, bool has_root)
+{
+    return PyUnicode_FromStringAndSize(separators[dialect], has_root);
+}
+
 /* The bytes of a prefix with the root behind it, as text. */
 static PyObject *anchored(uint32_t dialect, const char *at, size_t len, bool has_root)
 {
     if (!len)
-        return PyUnicode_FromStringAndSize(separators[dialect], has_root);
+        return root_of(dialect, has_root);
     if (!has_root)
         return decoded(dialect, at, len);
     char room[ROOM], *both = room_of(room, len + 1);
@@ -1092,33 +1104,56 @@ static PyObject *suffixes(const Path *path, const Text *text)
 }
 PROPERTY(suffixes, suffixes(path, &text))
 
-/* The drive, the root, or both. */
-static PyObject *anchor(Path *path, bool with_drive, bool with_root)
+/* Reads the prefix and the root behind it, unless they were read before. The length of a prefix is kept if it has room. */
+static inline bool read_anchor(Path *path, size_t *prefix, bool *has_root)
 {
-    size_t prefix = path->prefix;
-    bool has_root = path->answers & ANCHOR;
+    *prefix = path->prefix;
+    *has_root = path->answers & ANCHOR;
+    if (path->asked & ANCHOR)
+        return true;
     Text text;
-    if (!(path->asked & ANCHOR)) {
-        if (!read_path(path, &text))
-            return NULL;
-        prefix = anchor_of(path->dialect, &text, &has_root);
-        if (prefix <= UINT32_MAX) {
-            path->prefix = (uint32_t)prefix;
-            path->asked |= ANCHOR;
-            path->answers |= has_root ? ANCHOR : 0;
-        }
+    if (!read_path(path, &text))
+        return false;
+    *prefix = anchor_of(path->dialect, &text, has_root);
+    if (*prefix <= UINT32_MAX) {
+        path->prefix = (uint32_t)*prefix;
+        path->asked |= ANCHOR;
+        path->answers |= *has_root ? ANCHOR : 0;
     }
-    return anchored(path->dialect, path->at, with_drive ? prefix : 0, with_root && has_root);
+    return true;
 }
-#define OF_ANCHOR(name, with_drive, with_root) \
-    static PyObject *path_get_##name(PyObject *self, void *unused) \
-    { \
-        (void)unused; \
-        return anchor((Path *)self, with_drive, with_root); \
-    }
-OF_ANCHOR(drive, true, false)
-OF_ANCHOR(root, false, true)
-OF_ANCHOR(anchor, true, true)
+
+static PyObject *path_get_drive(PyObject *self, void *unused)
+{
+    Path *path = (Path *)self;
+    size_t prefix;
+    bool has_root;
+    (void)unused;
+    return read_anchor(path, &prefix, &has_root) ? anchored(path->dialect, path->at, prefix, false) : NULL;
+}
+
+/* Which paths have a root is in no order, so no branch hangs on it. */
+static PyObject *path_get_root(PyObject *self, void *unused)
+{
+    Path *path = (Path *)self;
+    size_t prefix;
+    bool has_root;
+    (void)unused;
+    if (!read_anchor(path, &prefix, &has_root))
+        return NULL;
+    if (atomic_load_explicit(&are_roots_shared, memory_order_relaxed))
+        return again(roots[path->dialect][has_root]);
+    return root_of(path->dialect, has_root);
+}
+
+static PyObject *path_get_anchor(PyObject *self, void *unused)
+{
+    Path *path = (Path *)self;
+    size_t prefix;
+    bool has_root;
+    (void)unused;
+    return read_anchor(path, &prefix, &has_root) ? anchored(path->dialect, path->at, prefix, has_root) : NULL;
+}
 
 static PyObject *parent(Path *path, const Text *text)
 {
@@ -1961,6 +1996,30 @@ static bool are_encodings_known(void)
     return are_known;
 }
 
+/* Notes the texts of roots where this is the first interpreter, or that this one has others. */
+static bool are_roots_noted(void)
+{
+    static pthread_mutex_t lock = PTHREAD_MUTEX_INITIALIZER;
+    PyObject *here[2][2];
+    bool are_made = true, are_first = false;
+    for (uint32_t at = 0; at < 4; ++at) {
+        here[at / 2][at % 2] = root_of(at / 2, at % 2);
+        are_made = are_made && here[at / 2][at % 2];
+    }
+    pthread_mutex_lock(&lock);
+    if (are_made && !roots[0][0]) {
+        are_first = true;
+        memcpy(roots, here, sizeof roots);
+        atomic_store(&are_roots_shared, true);
+    } else if (memcmp(roots, here, sizeof roots) != 0) {
+        atomic_store(&are_roots_shared, false);
+    }
+    pthread_mutex_unlock(&lock);
+    for (uint32_t at = 0; at < 4 && !are_first; ++at)
+        Py_XDECREF(here[at / 2][at % 2]);
+    return are_made;
+}
+
 /* Each process draws a key of its own, so no one can choose paths that have one hash. */
 static void draw_key(void)
 {
@@ -1977,7 +2036,7 @@ static int filled_module(PyObject *module)
         PyErr_SetString(PyExc_ImportError, "the system gives no random bytes for a key");
         return -1;
     }
-    bool is_whole = are_encodings_known() && are_types_added(module) &&
+    bool is_whole = are_encodings_known() && are_roots_noted() && are_types_added(module) &&
                     is_added(module, "unix", calls_of("typed_path.unix", unix_calls)) &&
                     is_added(module, "windows", calls_of("typed_path.windows", windows_calls)) &&
                     PyModule_AddIntConstant(module, "VERSION", (long)typed_path_version()) == 0;

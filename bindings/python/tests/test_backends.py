@@ -349,6 +349,7 @@ class Below(UnixPath):
     pass
 assert type(Below("a") / "b") is Below and UnixPath("a").join_checked_batch(["b"])[0] == ["a/b"]
 assert [Below("srv/www").parts, UnixPath("/srv/www").parts[1:]] == [("srv", "www")] * 2
+assert [Below(it).root for it in ("/a", "a")] + [WindowsPath(it).root for it in ("C:/a", "C:a")] == ["/", "", "\\\\", ""]
 """
 
     @unittest.skipUnless(IS_NATIVE, "ctypes is not for each interpreter")
