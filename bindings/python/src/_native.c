@@ -83,6 +83,13 @@ typedef struct {
     bool hands_on; /* whether its class has a with_segments of its own */
 } Path;
 
+/* Paths lie behind each other as they were made, and are mostly asked in that order. So what is kept is asked for while a
+   path some places on is fetched from memory; if none is there, nothing is. */
+static inline void fetch_later(const Path *path)
+{
+    __builtin_prefetch((const void *)((uintptr_t)path + 8 * sizeof *path));
+}
+
 /* Bytes that are read, and what holds them. */
 typedef struct {
     const char *at;
@@ -651,6 +658,7 @@ static PyObject *parts_of(PyTypeObject *type, uint32_t dialect, const Text *path
 #define QUESTION(name, which) \
     static PyObject *path_##name(PyObject *self, PyObject *unused) \
     { \
+        fetch_later((Path *)self); \
         if (!(((Path *)self)->asked & which)) { \
             READ_SELF(text); \
             bool answer = false; \
@@ -667,6 +675,7 @@ static PyObject *parts_of(PyTypeObject *type, uint32_t dialect, const Text *path
     static PyObject *path_get_##name(PyObject *self, void *unused) \
     { \
         PyObject **kept_at = &((Path *)self)->name; \
+        fetch_later((Path *)self); \
         if (*kept_at) \
             return again(*kept_at); \
         READ_SELF(text); \
@@ -1107,6 +1116,7 @@ PROPERTY(suffixes, suffixes(path, &text))
 /* Reads the prefix and the root behind it, unless they were read before. The length of a prefix is kept if it has room. */
 static inline bool read_anchor(Path *path, size_t *prefix, bool *has_root)
 {
+    fetch_later(path);
     *prefix = path->prefix;
     *has_root = path->answers & ANCHOR;
     if (path->asked & ANCHOR)
@@ -1203,6 +1213,7 @@ static Py_hash_t path_hash(PyObject *self)
     Path *path = (Path *)self;
     Text text;
     uint64_t number;
+    fetch_later(path);
     if (path->hash)
         return path->hash;
     if (!read_path(path, &text))
