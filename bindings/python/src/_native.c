@@ -47,6 +47,8 @@ PyAPI_FUNC(void) PyBuffer_Release(Py_buffer *buffer);
 #define PIECES 64          /* how many components are read on the stack */
 #define NAMES_RECENT 256   /* how many names a thread keeps that it has met in parts */
 #define NAMES_AT_ONCE 65536 /* how many names of a batch are joined while the lock of Python is let go */
+#define TEXTS_AT_ONCE 128  /* how many of their targets are cut from one text */
+#define WORD sizeof(uint64_t)
 
 /* What the text of a path is encoded by in each dialect, as _errors.py says; and the key of all hashes. */
 static char encodings[2][64], errors[64];
@@ -1440,11 +1442,11 @@ static int path_setattro(PyObject *self, PyObject *name, PyObject *value)
 
 /* Many joins at once. */
 
+/* A name; once it was joined, `at` and `len` are its target's. */
 typedef struct {
-    PyObject *name; /* as it was handed in */
-    Text text;
+    const char *at;
+    size_t len;
     uint32_t status;
-    size_t start, len; /* of its target */
 } Item;
 
 /* A batch, and the run of names that is joined at once. Its targets go into a list, as paths or as the names are, or
@@ -1459,43 +1461,52 @@ typedef struct {
     char *buffer;
     size_t buffer_size, used;
     Text end;
+    PyObject *names; /* a list of the names of the run, as they were handed in */
+    PyObject *held;  /* a list of what their bytes are read from besides; NULL where that is nothing */
     Item *items;
     size_t count, room;
     size_t size;   /* the bytes that the targets of the run take at most */
     size_t before; /* how many names stand before the run */
     int are_bytes; /* whether the names are bytes; less than 0 before the first one */
+    bool is_mixed; /* whether targets were met that are not ASCII */
 } Batch;
 
 /* Where a target stands in memory of the batch's own: at a word, as Python reads text fastest. */
-static size_t aligned(size_t at)
+static inline size_t aligned(size_t at)
 {
-    return (at + sizeof(size_t) - 1) / sizeof(size_t) * sizeof(size_t);
+    return (at + WORD - 1) / WORD * WORD;
+}
+
+/* A list that no one else finds, as by `gc`, while the lock of Python is let go. */
+static PyObject *hidden(PyObject *list)
+{
+    if (list)
+        PyObject_GC_UnTrack(list);
+    return list;
 }
 
 static void forget_run(Batch *batch)
 {
-    for (size_t at = 0; at < batch->count; ++at) {
-        Py_DECREF(batch->items[at].name);
-        Py_XDECREF(batch->items[at].text.held);
-    }
+    Py_CLEAR(batch->names);
+    Py_CLEAR(batch->held);
     batch->before += batch->count;
     batch->count = batch->size = 0;
 }
 
-/* Where the next name is noted, or NULL. */
-static Item *next_item(Batch *batch)
+/* Makes room for so many names in the run. */
+static inline bool has_room(Batch *batch, size_t count)
 {
-    if (batch->count == batch->room) {
-        size_t room = batch->room ? 2 * batch->room : 64;
-        Item *items = PyMem_Realloc(batch->items, room * sizeof *items);
-        if (!items) {
-            PyErr_NoMemory();
-            return NULL;
-        }
-        batch->items = items;
-        batch->room = room;
+    if (count <= batch->room)
+        return true;
+    size_t room = count < 2 * batch->room ? 2 * batch->room : count < 64 ? 64 : count;
+    Item *items = PyMem_Realloc(batch->items, room * sizeof *items);
+    if (!items) {
+        PyErr_NoMemory();
+        return false;
     }
-    return &batch->items[batch->count];
+    batch->items = items;
+    batch->room = room;
+    return true;
 }
 
 /* Reads the bytes of a name, which is a str or bytes as the first one is. */
@@ -1507,65 +1518,138 @@ static bool read_name(Batch *batch, PyObject *name, Item *item)
         return false;
     }
     batch->are_bytes = is_bytes;
-    *item = (Item){name, {"", 0, NULL, is_bytes}, TYPED_PATH_STATUS_DONE, 0, 0};
-    if (is_bytes ? read_bytes(name, &item->text) : read_str(batch->base->dialect, name, &item->text))
+    Text text = {"", 0, NULL, is_bytes};
+    bool is_read = is_bytes ? read_bytes(name, &text) : read_str(batch->base->dialect, name, &text);
+    *item = (Item){text.at, text.len, TYPED_PATH_STATUS_DONE};
+    if (text.held && !batch->held)
+        batch->held = hidden(PyList_New(0));
+    if (text.held) {
+        is_read = batch->held && PyList_Append(batch->held, text.held) == 0;
+        Py_DECREF(text.held);
+    }
+    if (is_read)
         return true;
     if (!PyErr_ExceptionMatches(PyExc_UnicodeEncodeError))
         return false;
     PyErr_Clear();
-    item->status = batch->unwritten;
+    *item = (Item){"", 0, batch->unwritten};
     return true;
 }
 
-/* Takes a run of names; less than 0 for an error, 0 if there are no more behind it. */
-static int take_run(Batch *batch, PyObject *names)
+/* Reads a name that is held. Most are a str behind others. */
+static inline bool is_taken(Batch *batch, PyObject *name, Item *item)
 {
-    while (batch->count < NAMES_AT_ONCE) {
-        PyObject *name = PyIter_Next(names);
-        if (!name)
-            return PyErr_Occurred() ? -1 : 0;
-        Item *item = next_item(batch);
-        if (!item || !read_name(batch, name, item)) {
-            Py_DECREF(name);
-            return -1;
-        }
-        batch->size += aligned(TYPED_PATH_RESOLVE_BOUND(batch->base->len, item->text.len) + batch->end.len);
-        ++batch->count;
+    Py_ssize_t len;
+    if (batch->are_bytes != 0 || !PyUnicode_CheckExact(name) || !is_utf8[batch->base->dialect])
+        return read_name(batch, name, item);
+    const char *at = PyUnicode_AsUTF8AndSize(name, &len);
+    if (!at) {
+        PyErr_Clear();
+        return read_name(batch, name, item);
     }
-    return 1;
+    *item = (Item){at, (size_t)len, TYPED_PATH_STATUS_DONE};
+    return true;
 }
 
-/* Joins the names of the run without the lock of Python. Their targets stand behind each other in `out`, from `used` on.
-   The place is that of the first name that has no room or no memory, whose status is returned. */
-static uint32_t join_run(Batch *batch, char *out, size_t size, size_t *place)
+/* Notes that so many names were taken, of so many bytes. */
+static void note_run(Batch *batch, size_t count, size_t len)
+{
+    batch->count = count;
+    batch->size = len + count * aligned(TYPED_PATH_RESOLVE_BOUND(batch->base->len, WORD) + batch->end.len);
+}
+
+/* Takes a run of names from a list; less than 0 for an error, 0 if there are no more behind it. */
+static int take_listed(Batch *batch, PyObject *names)
+{
+    Py_ssize_t before = (Py_ssize_t)batch->before;
+    batch->names = hidden(PyList_GetSlice(names, before, before + NAMES_AT_ONCE));
+    size_t count = batch->names ? (size_t)PyList_Size(batch->names) : 0, len = 0;
+    if (!batch->names || !has_room(batch, count))
+        return -1;
+    for (size_t at = 0; at < count; ++at) {
+        Item *item = &batch->items[at];
+        if (!is_taken(batch, PyList_GetItem(batch->names, (Py_ssize_t)at), item))
+            return -1;
+        len += item->len;
+    }
+    note_run(batch, count, len);
+    return count == NAMES_AT_ONCE;
+}
+
+/* The same from an iterator. */
+static int take_run(Batch *batch, PyObject *names)
+{
+    size_t count = 0, len = 0;
+    batch->names = hidden(PyList_New(0));
+    while (batch->names && count < NAMES_AT_ONCE) {
+        PyObject *name = PyIter_Next(names);
+        if (!name && PyErr_Occurred())
+            return -1;
+        if (!name)
+            break;
+        bool is_held = PyList_Append(batch->names, name) == 0;
+        Py_DECREF(name);
+        if (!is_held || !has_room(batch, count + 1) || !is_taken(batch, name, &batch->items[count]))
+            return -1;
+        len += batch->items[count].len;
+        ++count;
+    }
+    note_run(batch, count, len);
+    return batch->names ? count == NAMES_AT_ONCE : -1;
+}
+
+/* Joins the names of the run. Their targets stand behind each other in `out`, from `used` on; those of a list at words,
+   with zeros between, and a word of these behind. The place is that of the first name that has no room or no memory, whose
+   status is returned. */
+static inline uint32_t join_names(Batch *batch, char *out, size_t size, size_t *place, bool are_listed)
 {
     const Path *base = batch->base;
+    const Text end = batch->end;
+    Item *const items = batch->items;
+    const size_t count = batch->count;
     size_t used = batch->used, len = 0;
     uint32_t status = TYPED_PATH_STATUS_DONE;
-    PyThreadState *lock = PyEval_SaveThread();
-    for (size_t at = 0; at < batch->count; ++at) {
-        Item *item = &batch->items[at];
-        size_t start = batch->targets ? aligned(used) : used, room = size - start;
-        if (item->status == TYPED_PATH_STATUS_DONE)
-            item->status =
-                batch->call(base->dialect, base->at, base->len, item->text.at, item->text.len, out + start, room, &len);
-        if (item->status == TYPED_PATH_STATUS_DONE && room - len < batch->end.len)
-            item->status = TYPED_PATH_STATUS_TOO_SMALL;
-        if (item->status == TYPED_PATH_STATUS_TOO_SMALL || item->status == TYPED_PATH_STATUS_OUT_OF_MEMORY) {
-            status = item->status;
+    for (size_t at = 0; at < count; ++at) {
+        Item *item = &items[at];
+        size_t start = used;
+        if (are_listed) {
+            memset(out + used, 0, WORD);
+            start = aligned(used);
+        }
+        status = item->status;
+        if (status == TYPED_PATH_STATUS_DONE)
+            status = batch->call(
+                base->dialect, base->at, base->len, item->at, item->len, out + start, size - start, &len);
+        if (status == TYPED_PATH_STATUS_DONE) {
+            used = start + len;
+            if (!are_listed && size - used < end.len)
+                status = TYPED_PATH_STATUS_TOO_SMALL;
+            else if (!are_listed) {
+                memcpy(out + used, end.at, end.len);
+                used += end.len;
+            }
+        }
+        if (status == TYPED_PATH_STATUS_TOO_SMALL || status == TYPED_PATH_STATUS_OUT_OF_MEMORY) {
             *place = at;
             break;
         }
-        if (item->status == TYPED_PATH_STATUS_DONE) {
-            if (batch->end.len)
-                memcpy(out + start + len, batch->end.at, batch->end.len);
-            used = start + len + batch->end.len;
-        }
-        item->start = start;
+        item->at = out + start;
         item->len = len;
+        item->status = status;
+        status = TYPED_PATH_STATUS_DONE;
     }
-    PyEval_RestoreThread(lock);
+    if (are_listed)
+        memset(out + used, 0, WORD);
     batch->used = used;
+    return status;
+}
+
+/* The same without the lock of Python. */
+static uint32_t join_run(Batch *batch, char *out, size_t size, size_t *place)
+{
+    PyThreadState *lock = PyEval_SaveThread();
+    uint32_t status = batch->targets ? join_names(batch, out, size, place, true) : join_names(batch, out, size, place, false);
+    PyEval_RestoreThread(lock);
     return status;
 }
 
@@ -1584,17 +1668,63 @@ static bool is_run_noted(const Batch *batch)
     return is_noted;
 }
 
-/* The targets of the run: None for a name that was refused. */
-static PyObject *targets_of(const Batch *batch, const char *out)
+static bool are_ascii(const char *at, const char *end)
 {
+    uint64_t all = 0, word;
+    for (; at < end; at += WORD) {
+        memcpy(&word, at, WORD);
+        all |= word;
+    }
+    return !(all & UINT64_C(0x8080808080808080));
+}
+
+/* The targets of some items as one text, with what stands between them, if they are ASCII. They are looked at before only
+   if others were not. */
+static PyObject *whole_text(Batch *batch, const char *begin, const char *end)
+{
+    if (batch->is_mixed && !are_ascii(begin, end))
+        return NULL;
+    PyObject *text = PyUnicode_DecodeASCII(begin, end - begin, "strict");
+    if (!text && PyErr_ExceptionMatches(PyExc_UnicodeDecodeError)) {
+        PyErr_Clear();
+        batch->is_mixed = true;
+    }
+    return text;
+}
+
+/* Puts the targets of some items into a list: None for a name that was refused. Python cuts a text of ASCII without a look
+   at its letters, in two thirds of the time that it takes to make one of bytes. */
+static bool are_put(Batch *batch, size_t place, size_t behind, const char *end, PyObject *targets)
+{
+    const Item *const items = batch->items;
+    const char *begin = items[place].at;
     Made made = {batch->as_paths ? batch->base : NULL, batch->are_bytes > 0};
+    PyObject *whole = made.like || made.is_bytes || !is_utf8[batch->base->dialect] ? NULL : whole_text(batch, begin, end);
+    bool are_whole = !PyErr_Occurred();
+    for (size_t at = place; are_whole && at < behind; ++at) {
+        const Item *item = &items[at];
+        PyObject *target;
+        if (item->status != TYPED_PATH_STATUS_DONE)
+            target = again(Py_None);
+        else if (whole)
+            target = PyUnicode_Substring(whole, item->at - begin, item->at - begin + (Py_ssize_t)item->len);
+        else
+            target = made_of(made, batch->base->dialect, item->at, item->len);
+        are_whole = target && PyList_SetItem(targets, (Py_ssize_t)at, target) == 0;
+    }
+    Py_XDECREF(whole);
+    return are_whole;
+}
+
+/* The targets of the run. */
+static PyObject *targets_of(Batch *batch, const char *out)
+{
     PyObject *targets = PyList_New((Py_ssize_t)batch->count);
-    for (size_t at = 0; targets && at < batch->count; ++at) {
-        const Item *item = &batch->items[at];
-        PyObject *target = item->status == TYPED_PATH_STATUS_DONE
-                               ? made_of(made, batch->base->dialect, out + item->start, item->len)
-                               : again(Py_None);
-        if (!target || PyList_SetItem(targets, (Py_ssize_t)at, target) < 0)
+    for (size_t place = 0; targets && place < batch->count; place += TEXTS_AT_ONCE) {
+        bool is_last = batch->count - place <= TEXTS_AT_ONCE;
+        size_t behind = is_last ? batch->count : place + TEXTS_AT_ONCE;
+        const char *end = is_last ? out + aligned(batch->used) : batch->items[behind].at;
+        if (!are_put(batch, place, behind, end, targets))
             Py_CLEAR(targets);
     }
     return targets;
@@ -1620,7 +1750,8 @@ static bool is_run_listed(Batch *batch, const char *out)
 /* Joins the run, and hands its targets on. */
 static bool is_run_done(Batch *batch)
 {
-    char *own = batch->targets ? PyMem_Malloc(batch->size) : NULL;
+    size_t size = batch->size + WORD;
+    char *own = batch->targets ? PyMem_Malloc(size) : NULL;
     if (batch->targets && !own) {
         PyErr_NoMemory();
         return false;
@@ -1628,13 +1759,13 @@ static bool is_run_done(Batch *batch)
     size_t place = 0;
     if (own)
         batch->used = 0;
-    uint32_t status = own ? join_run(batch, own, batch->size, &place)
+    uint32_t status = own ? join_run(batch, own, size, &place)
                           : join_run(batch, batch->buffer, batch->buffer_size, &place);
     bool is_done = status == TYPED_PATH_STATUS_DONE && is_run_noted(batch) && (!own || is_run_listed(batch, own));
     if (status == TYPED_PATH_STATUS_OUT_OF_MEMORY)
         PyErr_NoMemory();
     else if (status == TYPED_PATH_STATUS_TOO_SMALL)
-        raised("too_small", "(On)", batch->items[place].name, (Py_ssize_t)(batch->before + place));
+        raised("too_small", "(On)", PyList_GetItem(batch->names, (Py_ssize_t)place), (Py_ssize_t)(batch->before + place));
     PyMem_Free(own);
     return is_done;
 }
@@ -1652,16 +1783,17 @@ static bool are_joined(Batch *batch, PyObject *number, PyObject *names)
     batch->call = calls[which];
     batch->unwritten = which == 1 ? TYPED_PATH_STATUS_NOT_TEXT : TYPED_PATH_STATUS_INVALID_FILENAME;
     batch->are_bytes = -1;
-    PyObject *iterator = PyObject_GetIter(names);
-    int more = iterator ? 1 : -1;
+    bool are_listed = PyList_CheckExact(names);
+    PyObject *from = are_listed ? again(names) : PyObject_GetIter(names);
+    int more = from ? 1 : -1;
     while (more > 0) {
-        more = take_run(batch, iterator);
+        more = are_listed ? take_listed(batch, from) : take_run(batch, from);
         if (more >= 0 && batch->count && !is_run_done(batch))
             more = -1;
         forget_run(batch);
     }
     PyMem_Free(batch->items);
-    Py_XDECREF(iterator);
+    Py_XDECREF(from);
     return more == 0;
 }
 

@@ -98,8 +98,9 @@ class Alike(unittest.TestCase):
             for base in found[:50]:
                 for names in (found[:50], [it.encode() for it in found[:50]], ["\ud800", "a"]):
                     for number in range(3):
-                        got = [it._batch(iter(names), number, False) for it in (kind(base), other(base))]
-                        self.assertEqual(*got, (base, number))
+                        for given in (list, tuple, iter):
+                            got = [it._batch(given(names), number, False) for it in (kind(base), other(base))]
+                            self.assertEqual(*got, (base, number))
                         buffers = [bytearray(200_000) for _ in got]
                         written = [
                             it._batch_into(names, number, buffer, b"\n")
@@ -140,6 +141,38 @@ class Alike(unittest.TestCase):
                         got, wanted = (answered(getattr(it, name), *words) for it in (calls, slow))
                         self.assertEqual((type(got), got), (type(wanted), wanted), (name, words))
                 self.assertTrue(getattr(calls, name).__doc__, name)
+
+
+class Batches(unittest.TestCase):
+    def test_many_names(self):
+        """Each is joined as it is alone, whatever letters others have, and whether they are listed."""
+        chosen = random.Random(1)
+        for kind in (UnixPath, WindowsPath):
+            for strange in (0, 0.002, 0.5):
+                names = [
+                    chosen.choice(("..", "/x", "")) if chosen.random() < 0.1
+                    else "n" * chosen.randrange(1, 20) + ("\u00e9\udcff" if chosen.random() < strange else "")
+                    for _ in range(1500)
+                ]
+                base = kind("base")
+                alone = [answered(lambda name: str(base.join_checked(name)), name) for name in names]
+                for given in (list, tuple, iter):
+                    targets, refusals = base.join_checked_batch(given(names))
+                    got = [refusals[at] if target is None else target for at, target in enumerate(targets)]
+                    self.assertEqual(got, [it[0] if isinstance(it, tuple) else it for it in alone])
+                    made = extract_names(base, given(names))
+                    self.assertEqual(
+                        [(name, str(path)) for name, path in made.targets],
+                        [(name, it) for name, it in zip(names, got) if isinstance(it, str)],
+                    )
+
+    def test_runs(self):
+        """More names than are joined at once."""
+        names = [f"n{at}" for at in range(2 * 65_536)] + ["..", "last"]
+        for given in (names, iter(names), names[:65_536]):
+            targets, refusals = UnixPath("a").join_checked_batch(given)
+            self.assertEqual([it and it[2:] for it in targets], [it if it != ".." else None for it in names[:len(targets)]])
+            self.assertEqual(len(refusals), targets.count(None))
 
 
 class Buffers(unittest.TestCase):
@@ -211,6 +244,7 @@ def calls_of(path, other):
         lambda: path.joinpath("a", 1), lambda: path / 1, lambda: path / pathlib.PurePosixPath("a"), lambda: path._pieces(),
         lambda: path._batch(["a", "..", "b"], 0, False), lambda: path._batch([b"a", b"nul"], 1, True),
         lambda: path._batch(["a", b"b"], 2, False), lambda: path._batch(["\ud800"], 0, False),
+        lambda: path._batch(iter(["a", "..", "b"]), 0, False), lambda: path._batch(["a", "\u00e9", "a"] * 50, 0, False),
         lambda: path._batch_into(["a", "b"], 0, bytearray(3000), b"\n"), lambda: path._batch_into(["a"], 0, bytearray(0), b""),
         lambda: unix.join_checked("a", other), lambda: path._check(), lambda: path._check_portable(), lambda: path._text(b"a"), lambda: path._is_name(b"a"),
         lambda: unix.is_within(b"a", other), lambda: windows.clean("a"), lambda: unix.join_checked("a", ".."),
