@@ -451,6 +451,8 @@ def extract_names(base: P, names: Iterable[Name], *, portable: bool = False) -> 
         raise BaseLosesPrefix(f"{str(base)!r} does not keep its prefix", base)
     listed = list(_listed(names))
     targets, statuses = base._batch(listed, int(portable), True)
+    if not statuses:
+        return Extraction(list(zip(listed, targets)), [])
     return Extraction(
         [(name, target) for name, target in zip(listed, targets) if target is not None],
         [(listed[place], refusal) for place, refusal in _refusals(statuses).items()],

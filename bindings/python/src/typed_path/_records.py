@@ -21,7 +21,8 @@ class Record(tuple):  # type: ignore[type-arg]
             setattr(cls, name, property(itemgetter(place)))
 
     def __new__(cls, *values: Any, **named: Any) -> Record:
-        values += tuple(named.pop(name) for name in cls._fields[len(values):] if name in named)
+        if named:
+            values += tuple(named.pop(name) for name in cls._fields[len(values):] if name in named)
         if len(values) != len(cls._fields) or named:
             raise TypeError(f"{cls.__name__} takes {', '.join(cls._fields)}")
         return tuple.__new__(cls, values)
