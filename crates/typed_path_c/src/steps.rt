@@ -1,7 +1,7 @@
 //! Steps of a reading that the caller keeps as three numbers.
 
 ghost use Rattle.std.specs.Prelude.{◌≡◌, ◌≤◌, ◌+◌, length, drop, option_map, MatchResult};
-ghost use Rattle.typed_path.specs.components.{windows};
+ghost use Rattle.typed_path.specs.components.{unix, windows};
 ghost use Rattle.typed_path.specs.scan.{first_of, last_of, but_last};
 ghost use Rattle.typed_path.specs.typed.{typed_dialect};
 ghost use Rattle.typed_path.specs.views.TypedViews.{typed_bytes};
@@ -40,12 +40,40 @@ fn next(dialect: u32, path: &[u8], reading: &mut Unread, component: &mut Compone
         component.new result }
     ensures within { result ≡ done → component.new.start + component.new.length ≤ length path.now }
 {
-    // A call for each dialect, so that each is compiled for the separators of its own.
+    // Each is compiled for the separators of its dialect, and for what is known of the numbers:
+    // behind a component no root is looked for.
     match dialect {
-        0 => take_first(TypedPath::unix(path), reading, component),
+        0 if reading.stage == 2 => take_first(TypedPath::unix(path), reading, component),
+        0 => take_first_of_unix(path, reading, component),
         1 => take_first_of_windows(path, reading, component),
         _ => BAD_DIALECT,
     }
+}
+
+/// Does what [`typed_path_next`] does, for a Unix path of which no component was taken, mostly.
+#[inline(always)]
+fn take_first_of_unix(path: &[u8], reading: &mut Unread, component: &mut Component) -> u32
+    ensures step { StepsIn first_of (drop 1) unix path.now reading.old reading.new component.old
+        component.new result }
+    ensures within { result ≡ done → component.new.start + component.new.length ≤ length path.now }
+{
+    // A root is taken with no search, and a name with no look for a root.
+    match path {
+        [b'/', ..] if reading.from == 0 => take_first(TypedPath::unix(path), reading, component),
+        [_, ..] if reading.from == 0 => take_first(TypedPath::unix(path), reading, component),
+        _ => take_first_within(path, reading, component),
+    }
+}
+
+/// Does what [`typed_path_next`] does, for a Unix path. A call of its own, since what it serves is
+/// rare.
+#[inline(never)]
+fn take_first_within(path: &[u8], reading: &mut Unread, component: &mut Component) -> u32
+    ensures step { StepsIn first_of (drop 1) unix path.now reading.old reading.new component.old
+        component.new result }
+    ensures within { result ≡ done → component.new.start + component.new.length ≤ length path.now }
+{
+    take_first(TypedPath::unix(path), reading, component)
 }
 
 /// Does what [`typed_path_next`] does, for a Windows path. A call of its own, so that a step on Unix
@@ -56,6 +84,10 @@ fn take_first_of_windows(path: &[u8], reading: &mut Unread, component: &mut Comp
         component.new result }
     ensures within { result ≡ done → component.new.start + component.new.length ≤ length path.now }
 {
+    // Behind a component no root is looked for.
+    if reading.stage == 2 {
+        return take_first(TypedPath::windows(path), reading, component);
+    }
     take_first(TypedPath::windows(path), reading, component)
 }
 

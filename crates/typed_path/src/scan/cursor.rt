@@ -393,6 +393,27 @@ impl<'a> Cursor<'a> {
         }
     }
 
+    /// Takes the first component left and returns it, like [`Cursor::front`]. The root needs no
+    /// search.
+    #[inline(always)]
+    fn root_or_front(&mut self) -> Option<Piece<'a>>
+        ensures taken { option_map part_of result ≡ first_part (items_left self.old) }
+        ensures items { items_left self.new ≡ drop 1 (items_left self.old) }
+        ensures slice { slice_left self.new
+            ≡ slice_after_front (items_left self.old) (slice_left self.old) }
+        ensures same { (d : Dialect) (t : List ℕ) → IsReadingOf d t self.old → IsReadingOf d t self.new }
+    {
+        match self.prefix {
+            Some(found) => Some(self.take_prefix(found)),
+            None => {
+                let mut body = rest!(self);
+                let step = body.root_or_front();
+                *self = over!(body, None);
+                Some(step?.piece())
+            }
+        }
+    }
+
     /// Takes the first component left and returns it with its index, or `None` if none is left.
     #[inline(always)]
     pub(crate) fn front_placed(&mut self) -> Option<PlacedPiece<'a>>
@@ -403,7 +424,7 @@ impl<'a> Cursor<'a> {
         ensures same { (d : Dialect) (t : List ℕ) → IsReadingOf d t self.old → IsReadingOf d t self.new }
     {
         let start = self.first_start();
-        match self.front() {
+        match self.root_or_front() {
             Some(piece) => Some(PlacedPiece { start, piece }),
             None => None,
         }
@@ -646,6 +667,23 @@ impl<'a> Body<'a> {
             return None;
         }
         Some(self.take_segment(0))
+    }
+
+    /// Takes the first component left and returns it, or `None` if none is left, like
+    /// [`Body::front`]. The root needs no search.
+    #[inline(always)]
+    fn root_or_front(&mut self) -> Option<Step<'a>>
+        ensures taken { option_map step_part result ≡ first_part (body_items self.old) }
+        ensures items { body_items self.new ≡ drop 1 (body_items self.old) }
+        ensures slice { body_slice self.new
+            ≡ slice_after_front (body_items self.old) (body_slice self.old) }
+        ensures separators { self.new.separators ≡ self.old.separators }
+        ensures text { self.new.text ≡ self.old.text }
+    {
+        if self.has_physical_root() {
+            return Some(self.take_segment(0));
+        }
+        self.front()
     }
 
     /// Takes the first component left and returns it. Its segment ends at index `end` of the slice
