@@ -70,10 +70,20 @@ fn last_of<T: Encoding>(path: &[u8]) -> Option<Last<'_>>
 pub extern "C" fn typed_path_parent(dialect: u32, path: &[u8], span: &mut Span) -> u32
     ensures { Lends dialect (λ d. parent_place d path.now) span.old span.new result }
 {
-    let Some(path) = path_in(dialect, path) else {
-        return BAD_DIALECT;
-    };
-    lend(whole_front(path.parent()), span)
+    let found = of_encoding!(dialect, parent(path), return BAD_DIALECT);
+    lend(found, span)
+}
+
+fn parent<T: Encoding>(path: &[u8]) -> Option<Span>
+    ensures { option_map (λ s. (s.start, s.length)) result ≡ parent_place T.dialect path.now }
+{
+    match Path::<T>::new(path).parent() {
+        Some(front) => Some(Span {
+            start: 0,
+            length: front.as_bytes().len(),
+        }),
+        None => None,
+    }
 }
 
 /// Returns where a front of a path is, which begins at 0; `None` if there is none.
