@@ -1,7 +1,8 @@
 #!/usr/bin/env bash
 # Times what it costs to cross to the library: each call for C that allocates nothing beside the same call of the library,
 # which crates/typed_path_bench exports; by turns, nanoseconds a call, the least of SWEEPS sweeps (400) over a thousand
-# paths that a seed makes. Prints a row for each call, and last the calls that cost more than 3 ns; it fails if there are any.
+# paths that a seed makes. Either step is handed the numbers of a reading in memory, as no compiler knows them there.
+# Prints a row for each call, and last the calls that cost more than 3 ns; it fails if there are any.
 # bindings/crossing.sh DIR ARCHIVE [SWEEPS]: DIR has what bindings/c/build.sh laid out, ARCHIVE is the proved
 # libtyped_path_bench.a.
 set -euo pipefail
@@ -49,10 +50,14 @@ static void make(int d) {
 #define TWO(call) \
     extern size_t bench_##call(const char *, size_t, const char *, size_t), \
         bench_windows_##call(const char *, size_t, const char *, size_t)
-ONE(last); ONE(parent); ONE(file_name); ONE(extension); ONE(first); ONE(is_valid); ONE(is_portable); ONE(may_be_device);
-ONE(step_back); ONE(keeps_prefix); ONE(simplified);
+#define STEP(call) \
+    extern size_t bench_##call(const char *, size_t, typed_path_reading *), \
+        bench_windows_##call(const char *, size_t, typed_path_reading *)
+ONE(parent); ONE(file_name); ONE(extension); ONE(is_valid); ONE(is_portable); ONE(may_be_device);
+ONE(keeps_prefix); ONE(simplified);
 TWO(starts_with); TWO(is_within); TWO(strip_prefix); TWO(ends_with); TWO(common_ancestor); TWO(push_place); TWO(eq);
 TWO(eq_ignore_case); TWO(starts_with_ignore_case);
+STEP(step_front_at); STEP(step_back_at);
 
 // No call that is timed asks for memory.
 #define NEVER(call) void call(void) { abort(); }
@@ -70,12 +75,18 @@ static int dear;
     for (int sweep = 0; sweep < sweeps; sweep++) { \
         double begun = now(); \
         sums[0] = 0; \
-        for (int i = 0; i < COUNT; i++) sums[0] += theirs; \
+        for (int i = 0; i < COUNT; i++) { \
+            typed_path_reading reading = TYPED_PATH_READING(paths[d][i].len); \
+            (void)reading; \
+            sums[0] += theirs; \
+        } \
         double between = now(); \
         sums[1] = 0; \
         for (int i = 0; i < COUNT; i++) { \
-            typed_path_span span; typed_path_place place; bool answer; \
-            (void)span, (void)place, (void)answer; \
+            typed_path_span span; typed_path_place place; typed_path_component component; bool answer; \
+            (void)span, (void)place, (void)component, (void)answer; \
+            typed_path_reading reading = TYPED_PATH_READING(paths[d][i].len); \
+            (void)reading; \
             sums[1] += ours; \
         } \
         double ended = now(); \
@@ -89,11 +100,7 @@ static int dear;
 }
 #define UNIX TYPED_PATH_UNIX, PATH
 #define WINDOWS TYPED_PATH_WINDOWS, PATH
-static size_t last_component(uint32_t dialect, const char *path, size_t len) {
-    typed_path_reading reading = TYPED_PATH_READING(len);
-    typed_path_component component;
-    return typed_path_next_back(dialect, path, len, &reading, &component) == TYPED_PATH_STATUS_DONE ? component.length : 1;
-}
+#define STEPPED(call) (typed_path_##call == TYPED_PATH_STATUS_DONE ? component.length : 1)
 int main(int argc, char **argv) {
     int sweeps = argc > 1 ? atoi(argv[1]) : 400;
     make(0), make(1);
@@ -128,8 +135,11 @@ int main(int argc, char **argv) {
         ANSWER(starts_with_ignore_ascii_case(UNIX, OTHER, &answer)));
     ROW("push_place", 0, bench_push_place(PATH, OTHER),
         typed_path_push_place(UNIX, OTHER, &place) == TYPED_PATH_STATUS_DONE ? place.kept + (place.separator != 0) : 1);
-    ROW("next_back, the first", 0, bench_step_back(PATH), last_component(UNIX));
-    ROW("next_back, the first", 1, bench_windows_step_back(PATH), last_component(WINDOWS));
+    ROW("next, the first", 0, bench_step_front_at(PATH, &reading), STEPPED(next(UNIX, &reading, &component)));
+    ROW("next, the first", 1, bench_windows_step_front_at(PATH, &reading), STEPPED(next(WINDOWS, &reading, &component)));
+    ROW("next_back, the first", 0, bench_step_back_at(PATH, &reading), STEPPED(next_back(UNIX, &reading, &component)));
+    ROW("next_back, the first", 1, bench_windows_step_back_at(PATH, &reading),
+        STEPPED(next_back(WINDOWS, &reading, &component)));
     printf("%d calls cost more than 3 ns\n", dear);
     return dear != 0;
 }

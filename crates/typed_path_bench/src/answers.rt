@@ -1,7 +1,7 @@
 //! What a Unix path answers, as a number: the length of the answer, or 1 if there is none; for a
 //! question 1 for yes and 0 for no.
 
-use typed_path::{TypedPath, UnixPath};
+use typed_path::{TypedPath, UnixPath, Unread};
 
 /// Returns the length of the last component.
 #[unsafe(no_mangle)]
@@ -98,6 +98,26 @@ pub extern "C" fn bench_starts_with_ignore_case(path: &[u8], base: &[u8]) -> usi
 pub extern "C" fn bench_step_back(path: &[u8]) -> usize {
     let path = TypedPath::Unix(UnixPath::new(path));
     match path.step_back(&mut path.unread()) {
+        Ok(Some(taken)) => taken.piece.text.len(),
+        Ok(None) | Err(_) => 1,
+    }
+}
+
+/// Returns the length of the first component that is left of a reading at `unread`, and moves
+/// `unread` past it.
+#[unsafe(no_mangle)]
+pub extern "C" fn bench_step_front_at(path: &[u8], unread: &mut Unread) -> usize {
+    match TypedPath::Unix(UnixPath::new(path)).step_front(unread) {
+        Ok(Some(taken)) => taken.piece.text.len(),
+        Ok(None) | Err(_) => 1,
+    }
+}
+
+/// Returns the length of the last component that is left of a reading at `unread`, and moves
+/// `unread` before it.
+#[unsafe(no_mangle)]
+pub extern "C" fn bench_step_back_at(path: &[u8], unread: &mut Unread) -> usize {
+    match TypedPath::Unix(UnixPath::new(path)).step_back(unread) {
         Ok(Some(taken)) => taken.piece.text.len(),
         Ok(None) | Err(_) => 1,
     }

@@ -3,7 +3,7 @@
 //! a path its length, or 0 if it is refused or allocation fails.
 
 use std::alloc::{AllocError, Global};
-use typed_path::{TypedPath, WindowsPath, WindowsPathBuf};
+use typed_path::{TypedPath, Unread, WindowsPath, WindowsPathBuf};
 
 /// Walks by `for`.
 #[unsafe(no_mangle)]
@@ -126,6 +126,26 @@ pub extern "C" fn bench_windows_may_be_device(path: &[u8]) -> usize {
 pub extern "C" fn bench_windows_step_back(path: &[u8]) -> usize {
     let path = TypedPath::Windows(WindowsPath::new(path));
     match path.step_back(&mut path.unread()) {
+        Ok(Some(taken)) => taken.piece.text.len(),
+        Ok(None) | Err(_) => 1,
+    }
+}
+
+/// Returns the length of the first component that is left of a reading at `unread`, and moves
+/// `unread` past it.
+#[unsafe(no_mangle)]
+pub extern "C" fn bench_windows_step_front_at(path: &[u8], unread: &mut Unread) -> usize {
+    match TypedPath::Windows(WindowsPath::new(path)).step_front(unread) {
+        Ok(Some(taken)) => taken.piece.text.len(),
+        Ok(None) | Err(_) => 1,
+    }
+}
+
+/// Returns the length of the last component that is left of a reading at `unread`, and moves
+/// `unread` before it.
+#[unsafe(no_mangle)]
+pub extern "C" fn bench_windows_step_back_at(path: &[u8], unread: &mut Unread) -> usize {
+    match TypedPath::Windows(WindowsPath::new(path)).step_back(unread) {
         Ok(Some(taken)) => taken.piece.text.len(),
         Ok(None) | Err(_) => 1,
     }
