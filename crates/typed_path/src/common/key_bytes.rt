@@ -2,7 +2,7 @@
 
 ghost use Rattle.std.specs.Prelude.{◌≡◌, ◌≤◌, ◌<◌, ◌+◌, ◌^◌, ◌∷◌, ◌++◌, length, drop, option_map};
 ghost use Rattle.std.specs.List.{concat};
-ghost use Rattle.typed_path.specs.order.{key_bytes, IsPutFrom, key_words_before, kind_key_words, length_prefixed, length_words};
+ghost use Rattle.typed_path.specs.order.{key_bytes, IsPutFrom, key_words_before, kind_key_words, length_prefixed, length_words, prefix_key_words};
 ghost use Rattle.typed_path.specs.views.PathViews.{path_bytes};
 ghost use Rattle.typed_path.specs.views.PieceViews.{prefix_view, step_part};
 
@@ -67,8 +67,9 @@ fn put_words<T: Encoding>(path: &[u8], out: &mut [u8]) -> usize
     put_bytes(out, at, &[0])
 }
 
-/// Writes the number of the prefix's kind, and its names or its letter, to `out[at..]`; nothing
-/// without a prefix. Returns the index after them, whether they fit or not.
+/// Writes the prefix of a path to `out[at..]`, as [`put_kind_and_names`] does; nothing without one.
+/// Returns the index after it, whether it fits or not.
+#[inline(always)]
 fn put_prefix(out: &mut [u8], at: usize, prefix: Option<WindowsPrefix<'_>>) -> usize
     requires { at + length (concat (key_words_before (option_map prefix_view prefix))) < 2 ^ 64 }
     ensures { IsPutFrom at (concat (key_words_before (option_map prefix_view prefix.entry)))
@@ -76,14 +77,24 @@ fn put_prefix(out: &mut [u8], at: usize, prefix: Option<WindowsPrefix<'_>>) -> u
 {
     match prefix {
         None => at,
-        Some(WindowsPrefix::Verbatim(name)) => put_named(out, at, 1, name),
-        Some(WindowsPrefix::VerbatimUNC(server, share)) => {
-            put_both_named(out, at, 2, server, share)
-        }
-        Some(WindowsPrefix::VerbatimDisk(letter)) => put_bytes(out, at, &[3, letter]),
-        Some(WindowsPrefix::DeviceNS(name)) => put_named(out, at, 4, name),
-        Some(WindowsPrefix::UNC(server, share)) => put_both_named(out, at, 5, server, share),
-        Some(WindowsPrefix::Disk(letter)) => put_bytes(out, at, &[6, letter]),
+        Some(prefix) => put_kind_and_names(out, at, prefix),
+    }
+}
+
+/// Writes the number of a prefix's kind, and its names or its letter, to `out[at..]`. Returns the
+/// index after them, whether they fit or not.
+fn put_kind_and_names(out: &mut [u8], at: usize, prefix: WindowsPrefix<'_>) -> usize
+    requires { at + length (concat (prefix_key_words (prefix_view prefix))) < 2 ^ 64 }
+    ensures { IsPutFrom at (concat (prefix_key_words (prefix_view prefix.entry)))
+        out.old out.new result }
+{
+    match prefix {
+        WindowsPrefix::Verbatim(name) => put_named(out, at, 1, name),
+        WindowsPrefix::VerbatimUNC(server, share) => put_both_named(out, at, 2, server, share),
+        WindowsPrefix::VerbatimDisk(letter) => put_bytes(out, at, &[3, letter]),
+        WindowsPrefix::DeviceNS(name) => put_named(out, at, 4, name),
+        WindowsPrefix::UNC(server, share) => put_both_named(out, at, 5, server, share),
+        WindowsPrefix::Disk(letter) => put_bytes(out, at, &[6, letter]),
     }
 }
 

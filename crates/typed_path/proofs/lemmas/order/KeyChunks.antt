@@ -66,9 +66,10 @@ fed_alike d t u fits other_fits = (
 pub chunk-filled : (old front new : List ℕ) (used end : ℕ) → 128 ≤ length old → used + length front ≡ 128 → IsPutFrom used front old new end → (take 128 new ≡ take used old ++ front) × (length (take 128 new) ≡ 128)
 chunk-filled old front new used end room whole put =
     let ends : end ≡ 128 = omega (arith, put.ends, whole) in
-    let size : length (take used old ++ front) ≡ 128 = omega (arith, length-append (take used old) front, length-take-le used old (omega (arith, room, whole)), whole) in
-    (ap (take 128) (put.put (omega (arith, ends, room))) ∙ take_at (take used old ++ front) (drop end old) 128 size,
-    length-take-le 128 new (omega (arith, put.long, room)))
+    let size : length (take used old ++ front) ≡ 128 = omega (arith, length-append (take used old) front, length-take-le used old (omega (arith, room, whole)), whole) in (
+      ap (take 128) (put.put (omega (arith, ends, room))) ∙ take_at (take used old ++ front) (drop end old) 128 size,
+      length-take-le 128 new (omega (arith, put.long, room)),
+    )
 
 -- bytes that stand behind a full chunk are brought to its front
 pub chunk-brought : (bytes : List ℕ) (n : ℕ) → length bytes ≡ 192 → n ≤ 64 → take n (paste bytes 0 (drop 128 bytes) 64) ≡ take n (drop 128 bytes)

@@ -70,16 +70,17 @@ windowed at size middle end x left old half new room within small first second =
     let behind : drop at half ≡ replicate 64 x ++ drop middle old = ap (drop at) (half-is ∙ append_assoc (take at old) (replicate 64 x) (drop middle old)) ∙ drop_at (take at old) (replicate 64 x ++ drop middle old) at front-long in
     let more-long : length (take (at + 1) half) ≡ at + 1 = length-take-le (at + 1) half (omega (arith, room, first.long)) in
     let rest : drop end half ≡ replicate (63 - size) x ++ drop middle old =
-        ap (λ n. drop n half) end-is ∙ ap (λ n. drop n half) (there-is at size) ∙ sym (drop-drop (1 + size) at half) ∙ ap (drop (1 + size)) behind
-        ∙ drop-append-le (1 + size) (replicate 64 x) (drop middle old) (omega (arith, small)) ∙ ap (λ xs. xs ++ drop middle old) (drop-replicate (1 + size) 64 x ∙ ap (λ n. replicate n x) (left-over size)) in
+    ap (λ n. drop n half) end-is ∙ ap (λ n. drop n half) (there-is at size) ∙ sym (drop-drop (1 + size) at half) ∙ ap (drop (1 + size)) behind
+    ∙ drop-append-le (1 + size) (replicate 64 x) (drop middle old) (omega (arith, small)) ∙ ap (λ xs. xs ++ drop middle old) (drop-replicate (1 + size) 64 x ∙ ap (λ n. replicate n x) (left-over size)) in
     let put : drop (at + 1) new ≡ (take size left ++ replicate (63 - size) x) ++ drop middle old =
-        ap (drop (at + 1)) (new-is ∙ append_assoc (take (at + 1) half) (take size left) (drop end half)) ∙ drop_at (take (at + 1) half) (take size left ++ drop end half) (at + 1) more-long
-        ∙ ap (λ xs. take size left ++ xs) rest ∙ sym (append_assoc (take size left) (replicate (63 - size) x) (drop middle old)) in
-    (second.long ∙ first.long,
-    ap (take at) (new-is ∙ append_assoc (take (at + 1) half) (take size left) (drop end half)) ∙ take-append-le at (take (at + 1) half) (take size left ++ drop end half) (omega (arith, more-long))
-    ∙ take-take at (at + 1) half (omega arith) ∙ front,
-    drop-take 1 63 (drop at new) ∙ ap (take 63) (drop-drop 1 at new ∙ put)
-    ∙ take_at (take size left ++ replicate (63 - size) x) (drop middle old) 63 (length-append (take size left) (replicate (63 - size) x) ∙ ap (λ n. n + length (replicate (63 - size) x)) taken ∙ ap (λ n. size + n) (length-replicate (63 - size) x) ∙ whole-is size small))
+    ap (drop (at + 1)) (new-is ∙ append_assoc (take (at + 1) half) (take size left) (drop end half)) ∙ drop_at (take (at + 1) half) (take size left ++ drop end half) (at + 1) more-long
+    ∙ ap (λ xs. take size left ++ xs) rest ∙ sym (append_assoc (take size left) (replicate (63 - size) x) (drop middle old)) in (
+      second.long ∙ first.long,
+      ap (take at) (new-is ∙ append_assoc (take (at + 1) half) (take size left) (drop end half)) ∙ take-append-le at (take (at + 1) half) (take size left ++ drop end half) (omega (arith, more-long))
+          ∙ take-take at (at + 1) half (omega arith) ∙ front,
+      drop-take 1 63 (drop at new) ∙ ap (take 63) (drop-drop 1 at new ∙ put)
+          ∙ take_at (take size left ++ replicate (63 - size) x) (drop middle old) 63 (length-append (take size left) (replicate (63 - size) x) ∙ ap (λ n. n + length (replicate (63 - size) x)) taken ∙ ap (λ n. size + n) (length-replicate (63 - size) x) ∙ whole-is size small),
+    )
   where
     there-is : (a b : ℕ) → a + 1 + b ≡ a + (1 + b)
     there-is a b = omega arith
@@ -211,7 +212,7 @@ module _ (s : Separators) (pair : ℕ × ℕ) (same : (b : ℕ) → is_separator
             plain-name (get_or left i 0) [] ((λ k. begins_no_name pair (sym (padded-front i short) k) (sym (padded-behind (i + 1) last (omega (arith, low, small))) k)) ∙ opens)
         by-next (b ∷ bs) e short = ⊎_elim
             (λ l. opened-name (get_or left i 0) b bs ((λ k. begins_no_name pair (sym (padded-front i short) k)
-                ((ap (λ xs. get_or xs 0 0) (sym e) ∙ get_or-drop (i + 1) left 0 0 ∙ ap (λ n. get_or left n 0) (omega arith) ∙ sym (padded-front (i + 1) l)) k)) ∙ opens))
+            ((ap (λ xs. get_or xs 0 0) (sym e) ∙ get_or-drop (i + 1) left 0 0 ∙ ap (λ n. get_or left n 0) (omega arith) ∙ sym (padded-front (i + 1) l)) k)) ∙ opens))
             (λ h. plain-name (get_or left i 0) (b ∷ bs) ((λ k. begins_no_name pair (sym (padded-front i short) k) (sym (padded-behind (i + 1) h (omega (arith, low, small))) k)) ∙ opens))
             (cases_lt (i + 1) size)
 
@@ -319,8 +320,8 @@ module _ (s : Separators) (pair : ℕ × ℕ) (same : (b : ℕ) → is_separator
           parted-laid at =
               laid.laid
               ∙ ap (λ xs. take begin block ++ xs) (keyed-name s own (take len own) (drop len own) (ap (λ n. take n own) (sym length-is)) (ap (λ n. drop n own) (sym length-is))
-                  (ap (λ n. is_name_piece (take n own)) (sym length-is) ∙ laid.named) (omega (arith, name-long, within_it, small))
-                  ∙ ap (λ n. (10 + n) ∷ take len own ++ keyed s (drop len own)) name-long)
+              (ap (λ n. is_name_piece (take n own)) (sym length-is) ∙ laid.named) (omega (arith, name-long, within_it, small))
+              ∙ ap (λ n. (10 + n) ∷ take len own ++ keyed s (drop len own)) name-long)
               ∙ sym (append_assoc (take begin block) ((10 + len) ∷ take len own) (keyed s (drop len own)))
               ∙ ap (λ xs. xs ++ keyed s (drop len own)) (sym (put-front len (10 + len) (omega (arith, within_it))))
               ∙ ap (λ xs. take (begin + 1 + len) (set block begin (10 + len)) ++ xs) (ap (λ n. keyed s (drop n own)) (sym length-is) ∙ sym (behind-name s at own laid.named))
@@ -382,7 +383,7 @@ module _ (s : Separators) (pair : ℕ × ℕ) (same : (b : ℕ) → is_separator
               let rest : drop size left ≡ [] = drop_all size left (omega (arith, ended)) in
               laid.laid
               ∙ ap (λ xs. take begin block ++ xs) (keyed-name s own own [] (sym whole ∙ ap (λ n. take n own) (sym none-separates)) (sym nothing ∙ ap (λ n. drop n own) (sym none-separates))
-                  (ap is_name_piece (sym whole ∙ ap (λ n. take n own) (sym none-separates)) ∙ laid.named) (omega (arith, own-long, ended, small)))
+              (ap is_name_piece (sym whole ∙ ap (λ n. take n own) (sym none-separates)) ∙ laid.named) (omega (arith, own-long, ended, small)))
               ∙ sym (append_assoc (take begin block) ((10 + length own) ∷ own) (keyed s []))
               ∙ ap (λ xs. (take begin block ++ (10 + length own) ∷ xs) ++ keyed s []) (sym whole)
               ∙ ap (λ xs. xs ++ keyed s []) (sym (put-front (length own) (10 + length own) (omega (arith, own-long, ended, laid.short))))

@@ -22,9 +22,12 @@ names-init c =
     let put = windowed at size c.put_bytes.result c.put_bytes-2.result c.pair-pair.result.0 left c.args.block.now c.put_bytes.new.out whole c.requires.room within small c.put_bytes.ensures c.put_bytes-2.ensures in
     let room : at + 64 ≤ length whole = omega (arith, c.requires.room, put.0) in
     let laid = begun v.separators c.pair-pair.result c.pair-pair.ensures left size within small two (sym c.begins_no_name.ensures ∙ c.if-begins_no_name.false)
-    v.begin v.from at c.marks_at-marks.result (window at whole) whole (window-long at whole room) put.2 (window-at at whole room) c.marks_at-marks.ensures in
-    (refl, put.0, put.1,
-    subst (λ t. IsLaidOut v.separators c.pair-pair.result (left_key_bytes (body_from v.begin v.separators v.from t)) left size (window at whole) (c.marks_at-marks.result / 2) 0) c.as_bytes-left.ensures laid)
+    v.begin v.from at c.marks_at-marks.result (window at whole) whole (window-long at whole room) put.2 (window-at at whole room) c.marks_at-marks.ensures in (
+      refl,
+      put.0,
+      put.1,
+      subst (λ t. IsLaidOut v.separators c.pair-pair.result (left_key_bytes (body_from v.begin v.separators v.from t)) left size (window at whole) (c.marks_at-marks.result / 2) 0) c.as_bytes-left.ensures laid,
+    )
 
 pub names-preserved : goal.names-preserved
 names-preserved c =
@@ -44,13 +47,14 @@ names-preserved c =
     let there : (k : ℕ) → k < 64 → get_or (window at block) k 0 ≡ get_or block (at + k) 0 = window-at at block room in
     let one = there (begin + 1 + len + 1) (omega (arith, c.if-size-end.false, small)) ∙ ap (λ n. get_or block n 0) (omega arith) in
     let two = there (begin + 1 + len + 2) (omega (arith, c.if-size-end.false, small)) ∙ ap (λ n. get_or block n 0) (omega arith) in
-    let opens = (λ i. begins_no_name c.pair-pair.result (one i) (two i)) ∙ sym c.begins_no_name-parted.ensures ∙ c.if-parted.false in
-    (c.names.invariant.0,
-    length-set block (at + begin) (10 + len) ∙ c.names.invariant.1,
-    take-set-le at block (at + begin) (10 + len) (omega arith) ∙ c.names.invariant.2,
-    subst (λ w. IsLaidOut v.separators c.pair-pair.result (left_key_bytes (body_items c.args.body.now)) left size w (c.names.marks / 2 ^ len / 2) (begin + 1 + len)) (sym (window-set at block room begin (10 + len) low))
-    (stepped v.separators c.pair-pair.result same left size within small (left_key_bytes (body_items c.args.body.now)) (window at block) c.names.marks begin len
-    laid c.lowest-length.ensures.within c.lowest-length.ensures.set c.lowest-length.ensures.below c.if-size-end.false opens))
+    let opens = (λ i. begins_no_name c.pair-pair.result (one i) (two i)) ∙ sym c.begins_no_name-parted.ensures ∙ c.if-parted.false in (
+      c.names.invariant.0,
+      length-set block (at + begin) (10 + len) ∙ c.names.invariant.1,
+      take-set-le at block (at + begin) (10 + len) (omega arith) ∙ c.names.invariant.2,
+      subst (λ w. IsLaidOut v.separators c.pair-pair.result (left_key_bytes (body_items c.args.body.now)) left size w (c.names.marks / 2 ^ len / 2) (begin + 1 + len)) (sym (window-set at block room begin (10 + len) low))
+          (stepped v.separators c.pair-pair.result same left size within small (left_key_bytes (body_items c.args.body.now)) (window at block) c.names.marks begin len
+          laid c.lowest-length.ensures.within c.lowest-length.ensures.set c.lowest-length.ensures.below c.if-size-end.false opens),
+    )
 
 pub take_segment-requires-clause-ends : goal.take_segment-requires-clause-ends
 take_segment-requires-clause-ends c =
@@ -89,9 +93,9 @@ returns-then-size-end-clause-laid c =
     ended-laid v.separators c.pair-pair.result same left size within small (left_key_bytes (body_items c.args.body.now)) (window at block) c.names.marks begin len
     laid c.lowest-length.ensures.within c.lowest-length.ensures.set c.lowest-length.ensures.below whole c.if-size-end.true (v.from + size)
     ∙ ap (λ xs. xs ++ left_key_bytes (later_body v.separators (v.from + size) (drop size left)))
-        (ap (take (size + 1)) (sym (window-set at block room begin (10 + len) (omega (arith, laid.short, small)))) ∙ window-front at (set block (at + begin) (10 + len)) more (size + 1) (omega (arith, small)))
+    (ap (take (size + 1)) (sym (window-set at block room begin (10 + len) (omega (arith, laid.short, small)))) ∙ window-front at (set block (at + begin) (10 + len)) more (size + 1) (omega (arith, small)))
     ∙ ap (λ cs. take (size + 1) (drop at (set block (at + begin) (10 + len))) ++ left_key_bytes cs)
-        (ap (λ t. later_body v.separators (v.from + size) (drop size t)) (c.as_bytes-left.ensures ∙ ap body_slice (sym c.names.invariant.0)) ∙ sym c.further.ensures.items)
+    (ap (λ t. later_body v.separators (v.from + size) (drop size t)) (c.as_bytes-left.ensures ∙ ap body_slice (sym c.names.invariant.0)) ∙ sym c.further.ensures.items)
 
 pub returns-then-parted-clause-laid : goal.returns-then-parted-clause-laid
 returns-then-parted-clause-laid c =
@@ -112,10 +116,10 @@ returns-then-parted-clause-laid c =
     parted-laid v.separators c.pair-pair.result same left size within small (left_key_bytes (body_items c.args.body.now)) (window at block) c.names.marks begin len
     laid c.lowest-length.ensures.within c.lowest-length.ensures.set c.lowest-length.ensures.below c.if-size-end.false (v.from + begin)
     ∙ ap (λ xs. xs ++ left_key_bytes (drop 1 (later_body v.separators (v.from + begin) (drop begin left))))
-        (ap (take end) (sym (window-set at block room begin (10 + len) (omega (arith, laid.short, small)))) ∙ window-front at (set block (at + begin) (10 + len)) more end (omega (arith, c.if-size-end.false, small)))
+    (ap (take end) (sym (window-set at block room begin (10 + len) (omega (arith, laid.short, small)))) ∙ window-front at (set block (at + begin) (10 + len)) more end (omega (arith, c.if-size-end.false, small)))
     ∙ ap (λ cs. take end (drop at (set block (at + begin) (10 + len))) ++ left_key_bytes cs)
-        (ap (λ t. drop 1 (later_body v.separators (v.from + begin) (drop begin t))) (c.as_bytes-left.ensures ∙ ap body_slice (sym c.names.invariant.0))
-        ∙ ap (drop 1) (sym c.further-then-parted.ensures.items) ∙ sym c.take_segment.ensures.items)
+    (ap (λ t. drop 1 (later_body v.separators (v.from + begin) (drop begin t))) (c.as_bytes-left.ensures ∙ ap body_slice (sym c.names.invariant.0))
+    ∙ ap (drop 1) (sym c.further-then-parted.ensures.items) ∙ sym c.take_segment.ensures.items)
 
 pub returns-then-begin-ne0-clause-laid : goal.returns-then-begin-ne0-clause-laid
 returns-then-begin-ne0-clause-laid c =
