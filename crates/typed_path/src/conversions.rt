@@ -306,10 +306,11 @@ fn turned_for_windows(path: &[u8]) -> Option<&[u8]>
     None
 }
 
-/// Returns what [`turned`] does from Windows to Unix. `None` leaves it open.
+/// Returns bytes that are `path` on Unix once each `\` in them is replaced by `/`.
 ///
-/// It tells of paths without a prefix; of those with one and a root after it, which replaces what
-/// was pushed for the prefix; and of those that are only a prefix.
+/// A path without a prefix is returned without a separator at its end; of one with a prefix and a
+/// root, what follows the prefix, likewise. A path that is only a prefix is returned as it is for a
+/// drive `C:`, and as `/` for any other. `None` leaves it open, even for such paths.
 #[inline(always)]
 fn turned_for_unix(path: &[u8]) -> Option<&[u8]>
     ensures { IfSome result (λ text. CrossesTurned windows unix path.now text.now) }
@@ -388,8 +389,8 @@ fn push_each<T: Encoding, U: Encoding>(
 
 /// Appends `path`, converted from the encoding `T` to `U` with checks, to `text`.
 ///
-/// It is converted as [`Path::with_encoding_checked`] does. `text` has `start` bytes. If a
-/// component is refused or allocation fails, a part of the result may stay.
+/// `text` has `start` bytes, which stay in every case; after a failure a part of the result may
+/// follow them. What is refused, and with which error, is told at [`Path::with_encoding_checked`].
 pub fn convert_checked<T: Encoding, U: Encoding>(
     text: &mut Vec<u8>,
     start: usize,

@@ -373,8 +373,9 @@ pub fn within_is_a_preorder(path: &[u8], middle: &[u8], base: &[u8])
         → is_within d middle.now base.now ≡ true → is_within d path.now base.now ≡ true }
 {}
 
-/// If a checked join accepts two paths, and a base keeps its prefix, then the first joined to the
-/// base, and the second to that, is within the base.
+/// If `keeps_prefix` is true of a base, two accepted paths joined to it in turn stay within it.
+///
+/// They are accepted if a checked join accepts each. The second is joined to what the first gave.
 #[tactic(auto, using(crate::proofs::lemmas::promises::JoinedWithin::stays_within_twice))]
 pub fn joined_twice_is_within(base: &[u8], first: &[u8], second: &[u8])
     ghost d: { Dialect }
@@ -536,9 +537,10 @@ pub fn unix_paths_cross_to_windows(path: &[u8])
     ensures back { CrossesBack path.now }
 {}
 
-/// A Windows path whose names have no forbidden byte becomes on Unix: a root, if it has one or a
-/// prefix other than a drive `C:`; else its drive as a name, or a `.` that is its first component;
-/// and then its `..` and names, in order.
+/// A Windows path becomes these components on Unix, if no name has a byte that Windows forbids.
+///
+/// First a root, if it has one or a prefix other than a drive `C:`; else its drive as a name, or a
+/// `.` that is its first component, or nothing. Then its `..` and names, in order.
 #[tactic(auto, using(crate::proofs::lemmas::conversions::CrossedPaths::crosses_to_unix))]
 pub fn windows_paths_cross_to_unix(path: &[u8])
     ensures { CrossesToUnix path.now }

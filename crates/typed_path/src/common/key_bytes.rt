@@ -67,8 +67,9 @@ fn put_words<T: Encoding>(path: &[u8], out: &mut [u8]) -> usize
     put_bytes(out, at, &[0])
 }
 
-/// Writes the prefix of a path to `out[at..]`, as [`put_kind_and_names`] does; nothing without one.
-/// Returns the index after it, whether it fits or not.
+/// Writes `prefix` to `out[at..]` as [`put_kind_and_names`] does, or nothing if it is `None`.
+///
+/// Returns the index after it, which may be past the end of `out`; so do the functions below.
 #[inline(always)]
 fn put_prefix(out: &mut [u8], at: usize, prefix: Option<WindowsPrefix<'_>>) -> usize
     requires { at + length (concat (key_words_before (option_map prefix_view prefix))) < 2 ^ 64 }
@@ -81,8 +82,7 @@ fn put_prefix(out: &mut [u8], at: usize, prefix: Option<WindowsPrefix<'_>>) -> u
     }
 }
 
-/// Writes the number of a prefix's kind, and its names or its letter, to `out[at..]`. Returns the
-/// index after them, whether they fit or not.
+/// Writes a prefix to `out[at..]`: a byte from 1 to 6 for its kind, and then its names or its letter.
 fn put_kind_and_names(out: &mut [u8], at: usize, prefix: WindowsPrefix<'_>) -> usize
     requires { at + length (concat (prefix_key_words (prefix_view prefix))) < 2 ^ 64 }
     ensures { IsPutFrom at (concat (prefix_key_words (prefix_view prefix.entry)))
@@ -98,8 +98,8 @@ fn put_kind_and_names(out: &mut [u8], at: usize, prefix: WindowsPrefix<'_>) -> u
     }
 }
 
-/// Writes a component after the prefix to `out[at..]`: the number of its kind, or its name. Returns
-/// the index after it, whether it fits or not.
+/// Writes a component after the prefix to `out[at..]`: a name as [`put_name`] does, any other as one
+/// byte, which is 7 for a root, 8 for `.` and 9 for `..`.
 #[inline(always)]
 fn put_step(out: &mut [u8], at: usize, step: Step<'_>) -> usize
     requires { at + length (concat (kind_key_words (step_part step).kind)) < 2 ^ 64 }
@@ -113,8 +113,7 @@ fn put_step(out: &mut [u8], at: usize, step: Step<'_>) -> usize
     }
 }
 
-/// Writes the number of a kind and two names to `out[at..]`. Returns the index after them, whether
-/// they fit or not.
+/// Writes the number of a kind and two names to `out[at..]`.
 fn put_both_named(out: &mut [u8], at: usize, kind: u8, server: &[u8], share: &[u8]) -> usize
     requires { at + 1 + length (concat (length_prefixed server.now ++ length_prefixed share.now)) < 2 ^ 64 }
     ensures { IsPutFrom at (kind ∷ concat (length_prefixed server.now ++ length_prefixed share.now))
@@ -124,8 +123,7 @@ fn put_both_named(out: &mut [u8], at: usize, kind: u8, server: &[u8], share: &[u
     put_name(out, behind, share)
 }
 
-/// Writes the number of a kind and a name to `out[at..]`. Returns the index after them, whether
-/// they fit or not.
+/// Writes the number of a kind and a name to `out[at..]`.
 fn put_named(out: &mut [u8], at: usize, kind: u8, name: &[u8]) -> usize
     requires { at + 1 + length (concat (length_prefixed name.now)) < 2 ^ 64 }
     ensures { IsPutFrom at (kind ∷ concat (length_prefixed name.now)) out.old out.new result }
@@ -134,8 +132,7 @@ fn put_named(out: &mut [u8], at: usize, kind: u8, name: &[u8]) -> usize
     put_name(out, behind, name)
 }
 
-/// Writes the length of a name, as [`put_count`] does, and its bytes to `out[at..]`. Returns the
-/// index after them, whether they fit or not.
+/// Writes the length of a name, as [`put_count`] does, and then its bytes to `out[at..]`.
 fn put_name(out: &mut [u8], at: usize, name: &[u8]) -> usize
     requires { at + length (concat (length_prefixed name.now)) < 2 ^ 64 }
     ensures { IsPutFrom at (concat (length_prefixed name.now)) out.old out.new result }
@@ -144,9 +141,8 @@ fn put_name(out: &mut [u8], at: usize, name: &[u8]) -> usize
     put_bytes(out, behind, name)
 }
 
-/// Writes a length to `out[at..]`: up to 244 as one byte that is 10 more, which is not the number
-/// of a kind; a greater one after the byte 255, lowest byte first. Returns the index after it,
-/// whether it fits or not.
+/// Writes a length to `out[at..]`. One of up to 244 is the byte 10 + n, and a greater one the byte
+/// 255 and n in eight bytes, lowest first. No kind has a number of 10 or more.
 fn put_count(out: &mut [u8], at: usize, count: usize) -> usize
     requires { at + length (concat (length_words count)) < 2 ^ 64 }
     ensures { IsPutFrom at (concat (length_words count)) out.old out.new result }

@@ -6,8 +6,9 @@ use crate::common::key_names::{lay_names, put_bytes};
 use crate::scan::Body;
 use std::hash::Hasher;
 
-/// The bytes of a key that a hasher was not fed yet, up to 128, which it is fed at once; and room
-/// for a block of names after them.
+/// Bytes of a key that wait to be fed to a hasher: up to 128, which go in one call.
+///
+/// After these 128 there is room for the 64 that [`lay_names`] may write.
 #[derive(Clone, Copy)]
 pub struct Chunk {
     bytes: [u8; 192],
@@ -21,7 +22,7 @@ impl Chunk {
     ghost use Rattle.typed_path.specs.views.BodyViews.{body_items};
     ghost use Rattle.typed_path.specs.views.KeyViews.{chunk_bytes};
 
-    /// Returns a chunk without bytes.
+    /// Returns a chunk in which no bytes wait.
     #[inline(always)]
     pub fn new() -> Chunk
         ensures { chunk_bytes result ≡ [] }
@@ -32,7 +33,7 @@ impl Chunk {
         }
     }
 
-    /// Returns the bytes that wait.
+    /// Returns the bytes that wait to be fed.
     #[inline(always)]
     pub fn as_bytes(&self) -> &[u8]
         ensures { result.now ≡ chunk_bytes self.now }
@@ -40,7 +41,7 @@ impl Chunk {
         &self.bytes[..self.used]
     }
 
-    /// Takes `bytes` behind those that wait, and feeds full chunks once more bytes come.
+    /// Appends `bytes` to those that wait. While more than 128 wait, feeds `state` the first 128.
     #[inline(always)]
     pub fn put<H: Hasher>(&mut self, bytes: &[u8], state: &mut H)
         ensures { AreFed H.write bytes.now state.old (chunk_bytes self.old) (chunk_bytes self.new) state.new }
@@ -51,7 +52,7 @@ impl Chunk {
         self.used = put_bytes(&mut self.bytes, self.used, bytes);
     }
 
-    /// Does what [`Chunk::put`] does, for bytes that do not fit.
+    /// Does what [`Chunk::put`] does, if more than 128 bytes wait then.
     fn put_over<H: Hasher>(&mut self, bytes: &[u8], state: &mut H)
         ensures { AreFed H.write bytes.now state.old (chunk_bytes self.old) (chunk_bytes self.new) state.new }
     {
@@ -66,8 +67,10 @@ impl Chunk {
         self.used = put_bytes(&mut self.bytes, self.used, left);
     }
 
-    /// Takes names at the front of `body`, as [`lay_names`] does, and feeds a full chunk. Returns
-    /// whether there were any.
+    /// Takes names off the front of `body`, as [`lay_names`] does, and returns whether it took any.
+    ///
+    /// In the key they are appended to the bytes that wait; if more than 128 wait then, `state` is
+    /// fed the first 128. `false` leaves it open whether a name comes next.
     #[inline(always)]
     pub fn put_names<H: Hasher>(&mut self, body: &mut Body<'_>, state: &mut H) -> bool
         ensures fed { fold H.write state.old (chunked (chunk_bytes self.old ++ left_key_bytes (body_items body.old)))

@@ -1,4 +1,4 @@
-//! Names that stand side by side in a path, as its key has them.
+//! Names that stand side by side in a path, written as the bytes of its key.
 
 ghost use Rattle.std.specs.Prelude.{◌≡◌, ◌≤◌, ◌<◌, ◌+◌, ◌^◌, ◌++◌, length, take, drop};
 ghost use Rattle.typed_path.specs.order.{IsPutFrom, left_key_bytes};
@@ -6,11 +6,13 @@ ghost use Rattle.typed_path.specs.views.BodyViews.{body_items};
 
 use crate::scan::{Body, begins_no_name, lowest, marks_at};
 
-/// Takes names at the front of `body`, and writes the bytes of their keys to `block[at..at + 64]`.
-/// Returns how many these are; 0 leaves it open whether the next component is a name.
+/// Takes names off the front of `body`, and returns how many bytes they are in the key.
 ///
-/// Between names that stand side by side there is one separator, and in a key the length of the
-/// second one. So names are copied at once, and only lengths are put.
+/// The bytes are written to `block` from `at` on; what follows them there may be overwritten. 0
+/// means that none was taken: whether the next component is a name is left open.
+///
+/// In a path one separator stands between two such names, and in its key one byte: the length of
+/// the second. So all bytes are copied at once, and lengths are written over the separators.
 #[inline(always)]
 pub fn lay_names(body: &mut Body<'_>, block: &mut [u8], at: usize) -> usize
     requires room { at + 64 ≤ length block.old }
@@ -28,7 +30,8 @@ pub fn lay_names(body: &mut Body<'_>, block: &mut [u8], at: usize) -> usize
     if begins_no_name(pair, *first, *second) {
         return 0;
     }
-    // Separators stand before and after the bytes, so that these tell of no name too much.
+    // Separators stand before the bytes, and fill the block after them: so each segment ends in the
+    // block, and one that is cut off there is left in `body`.
     let size = left.len().min(61);
     put_bytes(block, at, &[pair.0; 64]);
     put_bytes(block, at + 1, &left[..size]);
@@ -61,7 +64,7 @@ pub fn lay_names(body: &mut Body<'_>, block: &mut [u8], at: usize) -> usize
     begin
 }
 
-/// Writes bytes to `out[at..]` if they fit. Returns the index after them, whether they fit or not.
+/// Writes `bytes` to `out[at..]`, or nothing if they do not fit, and returns `at + bytes.len()`.
 #[inline(always)]
 pub fn put_bytes(out: &mut [u8], at: usize, bytes: &[u8]) -> usize
     requires { at + length bytes.now < 2 ^ 64 }

@@ -1,5 +1,5 @@
-//! Keys of maps whose names strangers choose. A key feeds a hasher where each component ends too,
-//! so no two lists of components feed it alike.
+//! Paths as keys of maps, where strangers choose the paths. A key also tells a hasher where each
+//! component ends, so two paths of one dialect feed it alike only if they are equal.
 
 ghost use Rattle.std.specs.Prelude.{◌≡◌, List, ℕ, IsTrue, fold, option_map};
 ghost use Rattle.std.specs.List.{concat};
@@ -19,10 +19,12 @@ use std::hash::{Hash, Hasher};
 pub trait KeyPath: Eq {
     ghost key_input: { Self → List (List ℕ) };
 
-    /// Feeds the key of a path to a hasher: of a name its length and its bytes; of any other
-    /// component a byte for its kind, and after that of a prefix its names in the same way, or the
-    /// letter of its drive; and then a byte with which no component begins. These are fed 128 at
-    /// once. A typed path feeds the number of its dialect last.
+    /// Feeds the bytes of the path's key to `state`, 128 in a call and what is left in one more.
+    ///
+    /// A name is its length and its bytes; a root, `.` and `..` are one byte each; a prefix is a
+    /// byte for its kind, and then its names, put as names are, or the letter of its drive. A byte
+    /// with which no component begins is last. A typed path feeds one byte more for its dialect, in
+    /// a call of its own.
     fn hash_key<H: Hasher>(&self, state: &mut H)
         ensures { state.new ≡ fold H.write state.old (key_input self.now) };
 
@@ -49,11 +51,11 @@ impl<T: Encoding> KeyPath for PathBuf<T> {
     }
 }
 
-/// A path as the key of a map whose names strangers choose.
+/// A path as the key of a map, where strangers choose the paths.
 ///
-/// It compares as its path does. What it feeds a hasher tells its list of components from all
-/// others: `a/bc`, `ab/c` and `abc`, which feed alike as paths, do not as keys. So a hasher with a
-/// key of its own, as std's `RandomState` makes it, spreads them like any other names.
+/// It compares as its path does. Paths that are not equal feed a hasher different bytes as keys: so
+/// do `a/bc`, `ab/c` and `abc`, which feed the same bytes as paths. A hasher with a seed, as std's
+/// `RandomState` makes it, so spreads them like any other keys.
 #[derive(Clone, Copy, Debug, PartialEq, Eq, PartialOrd, Ord, Drop)]
 pub struct Key<P> {
     path: P,
@@ -92,7 +94,7 @@ impl<P: KeyPath> Hash for Key<P> {
     }
 }
 
-/// Feeds the key of a path to a hasher.
+/// Feeds the key of a path to a hasher, up to the byte 0 that ends it.
 fn feed_key<T: Encoding, H: Hasher>(path: &[u8], state: &mut H)
     ensures { state.new ≡ fold H.write state.old (key_writes T.dialect path.now) }
 {
@@ -113,7 +115,7 @@ fn feed_key<T: Encoding, H: Hasher>(path: &[u8], state: &mut H)
     state.write(chunk.as_bytes());
 }
 
-/// Feeds the prefix of a path to a hasher, as [`feed_kind_and_names`] does; nothing without one.
+/// Feeds `prefix` as [`feed_kind_and_names`] does, or nothing if it is `None`.
 #[inline(always)]
 fn feed_prefix<H: Hasher>(prefix: Option<WindowsPrefix<'_>>, chunk: &mut Chunk, state: &mut H)
     ensures { AreFed H.write (concat (key_words_before (option_map prefix_view prefix.entry)))
@@ -124,7 +126,7 @@ fn feed_prefix<H: Hasher>(prefix: Option<WindowsPrefix<'_>>, chunk: &mut Chunk, 
     }
 }
 
-/// Feeds the number of a prefix's kind, and its names or its letter.
+/// Feeds a prefix: a byte from 1 to 6 for its kind, and then its names or the letter of its drive.
 fn feed_kind_and_names<H: Hasher>(prefix: WindowsPrefix<'_>, chunk: &mut Chunk, state: &mut H)
     ensures { AreFed H.write (concat (prefix_key_words (prefix_view prefix.entry)))
         state.old (chunk_bytes chunk.old) (chunk_bytes chunk.new) state.new }
@@ -153,7 +155,9 @@ fn feed_kind_and_names<H: Hasher>(prefix: WindowsPrefix<'_>, chunk: &mut Chunk, 
     }
 }
 
-/// Feeds a component after the prefix: the number of its kind, or its name.
+/// Feeds a component after the prefix: a name as [`feed_name`] does, any other as one byte.
+///
+/// The byte is 7 for a root, 8 for `.` and 9 for `..`.
 #[inline(always)]
 fn feed_step<H: Hasher>(step: Step<'_>, chunk: &mut Chunk, state: &mut H)
     ensures { AreFed H.write (concat (kind_key_words (step_part step.entry).kind))
@@ -167,8 +171,10 @@ fn feed_step<H: Hasher>(step: Step<'_>, chunk: &mut Chunk, state: &mut H)
     }
 }
 
-/// Feeds the length of a name and its bytes. Up to 244 the length is one byte that is 10 more,
-/// which is not the number of a kind; a greater one comes after the byte 255, lowest byte first.
+/// Feeds the length of `name`, and then its bytes.
+///
+/// A length n of up to 244 is the one byte 10 + n, and a greater one the byte 255 and n in eight
+/// bytes, lowest first. No kind has a number of 10 or more.
 #[inline(always)]
 fn feed_name<H: Hasher>(name: &[u8], chunk: &mut Chunk, state: &mut H)
     ensures { AreFed H.write (concat (length_prefixed name.now))

@@ -495,7 +495,9 @@ fn is_same_step(step: Step<'_>, other: Step<'_>) -> bool
     }
 }
 
-/// Returns the rank of a kind of component after the prefix, from 0 for the least.
+/// Returns the rank by which kinds of components after the prefix are ordered, least first.
+///
+/// It is 0 for a root, 1 for `.`, 2 for `..` and 3 for a name.
 #[inline(always)]
 pub(crate) fn kind_rank(kind: StepKind) -> u8
     ensures { result ≡ step_rank kind }

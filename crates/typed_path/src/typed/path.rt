@@ -330,8 +330,9 @@ impl<'a> TypedPath<'a> {
         typed_option!(self, path => path.common_ancestor(Path::new(other)))
     }
 
-    /// Whether the path lies at `base` or below it, from whatever directory both are read. `base`
-    /// is read in the same dialect.
+    /// Whether the path lies at `base` or below it, whichever directory both are read from.
+    ///
+    /// `base` is read in the same dialect.
     pub fn is_within(self, base: &[u8]) -> bool
         ensures { result ≡ is_within (typed_dialect self.entry) (typed_bytes self.entry) base.now }
     {

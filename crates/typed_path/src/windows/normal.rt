@@ -87,9 +87,11 @@ fn row_head(path: &[u8]) -> Option<RowHead<'_>>
     }
 }
 
-/// Whether the names after the prefix `found`, which is not `C:`, may be appended as they are: it
-/// is not the verbatim prefix named `UNC`, as `\\?\UNC`; a root or nothing follows it; and if
-/// `path` is read verbatim, no name holds a `/`.
+/// Whether the names after the prefix `found`, which is not `C:`, may be appended as they are.
+///
+/// They may exactly if the prefix is not the verbatim one named `UNC`, as `\\?\UNC`; a root or
+/// nothing follows it; and if `path` is read verbatim, no name holds a `/`. `head` is what
+/// [`head_behind`] returns for that prefix.
 #[inline(always)]
 fn takes_rows(path: &[u8], found: Found<'_>, head: RowHead<'_>) -> bool
     requires { found.length ≤ length path.now }

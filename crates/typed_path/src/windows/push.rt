@@ -490,9 +490,10 @@ fn merge_path(
     Ok(parted)
 }
 
-/// Returns the names that a merge of `path` appends, if `path` holds nothing but names.
+/// Returns `path` without `./` in front and a separator at its end, if only names are left then.
 ///
-/// It may have a `.` in front and a separator at its end, and has no prefix. `None` leaves it open.
+/// These are the names that a merge of `path` appends, with one `/` or `\` between two. `./` may be
+/// `.\` too. `path` has no prefix. `None` leaves it open.
 #[inline(always)]
 fn names_alone(path: &[u8]) -> Option<&[u8]>
     requires { has_prefix (kinds (parts_of windows path.now)) ≡ false }
@@ -576,9 +577,12 @@ fn merge_each(
     Ok(apart)
 }
 
-/// Merges one component into those in `text[head..]` after a prefix: a root replaces them, `.` is
-/// skipped, `..` takes the last one off if it is a name, and a name is appended. `parted` tells
-/// whether they are parted from the prefix; returns whether the result is.
+/// Merges a component into those in `text[head..]`, and returns `parted` for the result.
+///
+/// A prefix ends at `head`. If `parted`, a `\` there belongs to no component; if not, it is a root.
+/// A root replaces all components, `.` is skipped, `..` takes the last one off if it is a name, and
+/// a name is appended. `piece` is no prefix. If allocation fails, what follows `head` is
+/// unspecified.
 fn merge_piece(
     text: &mut Vec<u8>,
     head: usize,
