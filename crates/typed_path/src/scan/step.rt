@@ -171,8 +171,24 @@ pub fn front_step(text: &[u8], end: usize, separators: Separators) -> (Step<'_>,
     ensures named { result.0.kind ≡ StepKind.Normal
         → take (length result.0.text.now) text.now ≡ result.0.text.now }
 {
-    let behind = skip_blanks(&text[end..], separators);
+    let behind = skip_from_separator(&text[end..], separators);
     (step_of(&text[..end], separators), end + behind)
+}
+
+/// Returns what [`skip_blanks`] does, if `text` is empty or begins with a separator: that is not
+/// looked at.
+#[inline(always)]
+fn skip_from_separator(text: &[u8], separators: Separators) -> usize
+    requires { position_or_len (is_separator separators) text.now ≡ 0 }
+    ensures within { result ≤ length text.now }
+    ensures same { (at : ℕ) → later_body separators at text.now
+        ≡ later_body separators (at + result) (drop result text.now) }
+    ensures clean { is_clean Begin.Inside separators (drop result text.now) ≡ true }
+{
+    match text {
+        [] => 0,
+        [_, rest @ ..] => 1 + skip_blanks(rest, separators),
+    }
 }
 
 /// Returns the index of the first component in `text`, or the length if there is none. `text` comes
