@@ -1,7 +1,7 @@
 //! The laws of paths, each as a function that does nothing and ensures the law.
 
 ghost use Rattle.std.specs.Prelude.{◌≡◌, ◌↔◌, ℕ, ◌+◌, ◌*◌, ◌<◌, ◌≤◌, List, [], ◌∷◌, ◌++◌, true, false, length, Some, None, IfSome, IfOk, pos};
-ghost use Rattle.std.specs.List.{list_any, last_or};
+ghost use Rattle.std.specs.List.{concat, list_any, last_or};
 ghost use Rattle.std.specs.Cmp.{IsTotalOrder};
 ghost use Rattle.std.specs.declared.cmp.Ordering.{Ordering};
 ghost use Rattle.std.specs.Ordering.{ordering_then, nat_cmp};
@@ -14,7 +14,7 @@ ghost use Rattle.typed_path.specs.changes.{fault, push, with_extension, with_fil
 ghost use Rattle.typed_path.specs.conversions.{converted, converted_checked, absolute_from, absolute_under};
 ghost use Rattle.typed_path.specs.places.{clean_text, is_within, normal_text, relative_text};
 ghost use Rattle.typed_path.specs.promises.{AreCleanAlike, HasCleanForm, LeadAlike, IsWithinExactly, JoinsWithin, KeepsAgain, StaysWithin, LeadsBelow, JoinAppends, StripJoins, ReadsAsResolved, StaysNormal, IsCanonical, HashAlike, CrossesWhereAllowed, CrossesAsItIs, CrossesBack, CrossesToUnix, IsLongest, ShareNothing, ExtendsName, CleanLeadsAlike, HasNone, HasNoneAtAll, HasNoneOnUnix, IsDotAlike, LeadsBack, StaysRelative};
-ghost use Rattle.typed_path.specs.order.{key_writes, AreFedAlike, IsKeyed, IsToldApart, IsSame, is_same, path_cmp, kind_cmp, bytes_cmp, text_unix_words, text_prefix_words, text_kind_words, text_windows_words, text_piece_words};
+ghost use Rattle.typed_path.specs.order.{key_bytes, key_writes, AreFedAlike, IsKeyed, IsToldApart, IsSame, is_same, path_cmp, kind_cmp, bytes_cmp, text_unix_words, text_prefix_words, text_kind_words, text_windows_words, text_piece_words};
 ghost use Rattle.typed_path.specs.views.PieceViews.{kind_view, part_of};
 ghost use Rattle.typed_path.specs.views.UnixViews.{unix_part};
 ghost use Rattle.typed_path.specs.order.Words.{path_words, unix_words, kind_words, piece_words};
@@ -112,13 +112,14 @@ pub fn equal_paths_hash_alike(path: &[u8], other: &[u8])
     ensures { HashAlike d path.now other.now }
 {}
 
-/// Two keys have the same words, and feed a hasher alike, exactly if their paths are equal. If the
-/// bytes that two keys feed, each with any bytes after them, are the same as a whole, the paths are
+/// Two keys have the same words, and feed a hasher alike, exactly if their paths are equal. What a
+/// key feeds, joined, is the bytes of its words. If the bytes that two keys feed, each with any bytes after them, are the same as a whole, the paths are
 /// equal, and so are the bytes after.
 pub fn keys_tell_paths_apart(path: &[u8], other: &[u8])
     ghost d: { Dialect }
     ensures words { IsKeyed d path.now other.now }
     ensures fed { AreFedAlike d path.now other.now }
+    ensures joined { concat (key_writes d path.now) ≡ key_bytes d path.now }
     ensures bytes { IsToldApart d path.now other.now }
 {}
 

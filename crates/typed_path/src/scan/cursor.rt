@@ -55,6 +55,22 @@ macro_rules! over {
     };
 }
 
+/// The body of both ways to take the first component left: the prefix, or what the [`Body`] takes
+/// by the call that is named.
+macro_rules! take_first {
+    ($cursor:expr, $take:ident) => {
+        match $cursor.prefix {
+            Some(found) => Some($cursor.take_prefix(found)),
+            None => {
+                let mut body = rest!($cursor);
+                let step = body.$take();
+                *$cursor = over!(body, None);
+                Some(step?.piece())
+            }
+        }
+    };
+}
+
 impl<'a> Cursor<'a> {
     ghost use Rattle.typed_path.specs.declared.scan.cursor.Begin.{Begin};
     ghost use Rattle.typed_path.specs.queries.{begins_with_root, first_prefix, prefix_among, behind_prefix, has_prefix, has_physical_root};
@@ -215,15 +231,7 @@ impl<'a> Cursor<'a> {
             ≡ slice_after_front (items_left self.old) (slice_left self.old) }
         ensures same { (d : Dialect) (t : List ℕ) → IsReadingOf d t self.old → IsReadingOf d t self.new }
     {
-        match self.prefix {
-            Some(found) => Some(self.take_prefix(found)),
-            None => {
-                let mut body = rest!(self);
-                let step = body.front();
-                *self = over!(body, None);
-                Some(step?.piece())
-            }
-        }
+        take_first!(self, front)
     }
 
     /// Takes the prefix, which is `found`, and returns it.
@@ -403,15 +411,7 @@ impl<'a> Cursor<'a> {
             ≡ slice_after_front (items_left self.old) (slice_left self.old) }
         ensures same { (d : Dialect) (t : List ℕ) → IsReadingOf d t self.old → IsReadingOf d t self.new }
     {
-        match self.prefix {
-            Some(found) => Some(self.take_prefix(found)),
-            None => {
-                let mut body = rest!(self);
-                let step = body.root_or_front();
-                *self = over!(body, None);
-                Some(step?.piece())
-            }
-        }
+        take_first!(self, root_or_front)
     }
 
     /// Takes the first component left and returns it with its index, or `None` if none is left.
