@@ -112,9 +112,10 @@ pub fn equal_paths_hash_alike(path: &[u8], other: &[u8])
     ensures { HashAlike d path.now other.now }
 {}
 
-/// Two keys have the same words, and feed a hasher alike, exactly if their paths are equal. What a
-/// key feeds, joined, is the bytes of its words. If the bytes that two keys feed, each with any bytes after them, are the same as a whole, the paths are
-/// equal, and so are the bytes after.
+/// Two keys have the same words, and feed a hasher alike, exactly if their paths are equal.
+///
+/// What a key feeds, joined, is the bytes of its words. If the bytes that two keys feed, each with
+/// any bytes after them, are the same as a whole, the paths are equal, and so are the bytes after.
 pub fn keys_tell_paths_apart(path: &[u8], other: &[u8])
     ghost d: { Dialect }
     ensures words { IsKeyed d path.now other.now }
@@ -675,8 +676,8 @@ pub fn typed_values_compare_by_kind<U: Ord + Hash, W: Ord + Hash>(
         ≡ typed_words U.hash_input W.hash_input one.now }
 {}
 
-/// The key of a typed path feeds a hasher what the key of the path that it holds feeds, and then the
-/// number of its dialect.
+/// The key of a typed path feeds a hasher what the key of the path that it holds feeds, and then
+/// the number of its dialect.
 pub fn typed_keys_hash_by_kind<U: KeyPath, W: KeyPath>(key: &Key<Typed<U, W>>)
     ensures { ⟦<Key<Typed<U, W>> as Hash>⟧.hash_input key.now
         ≡ typed_key_words U.key_input W.key_input (keyed_path key.now) }

@@ -82,7 +82,7 @@ fn put_prefix(out: &mut [u8], at: usize, prefix: Option<WindowsPrefix<'_>>) -> u
     }
 }
 
-/// Writes a prefix to `out[at..]`: a byte from 1 to 6 for its kind, and then its names or its letter.
+/// Writes a prefix to `out[at..]`: a byte from 1 to 6 for its kind, and then its names or letter.
 fn put_kind_and_names(out: &mut [u8], at: usize, prefix: WindowsPrefix<'_>) -> usize
     requires { at + length (concat (prefix_key_words (prefix_view prefix))) < 2 ^ 64 }
     ensures { IsPutFrom at (concat (prefix_key_words (prefix_view prefix.entry)))
@@ -98,8 +98,8 @@ fn put_kind_and_names(out: &mut [u8], at: usize, prefix: WindowsPrefix<'_>) -> u
     }
 }
 
-/// Writes a component after the prefix to `out[at..]`: a name as [`put_name`] does, any other as one
-/// byte, which is 7 for a root, 8 for `.` and 9 for `..`.
+/// Writes a component after the prefix to `out[at..]`: a name as [`put_name`] does, any other as
+/// one byte, which is 7 for a root, 8 for `.` and 9 for `..`.
 #[inline(always)]
 fn put_step(out: &mut [u8], at: usize, step: Step<'_>) -> usize
     requires { at + length (concat (kind_key_words (step_part step).kind)) < 2 ^ 64 }
