@@ -43,7 +43,8 @@ impl<'a, T: Encoding> Path<'a, T> {
         Ok(PathBuf::from_vec(text))
     }
 
-    /// Returns the path in the encoding `U`, unless a name or a drive `C:` of it is refused.
+    /// Returns the path in the encoding `U`, unless a checked push refuses a name of it or its
+    /// drive.
     ///
     /// Its components are put one by one onto the empty path, each name and each drive by a checked
     /// push, all else by a plain one, even if `U` has the label of this encoding.
@@ -80,7 +81,7 @@ impl<'a, T: Encoding> Path<'a, T> {
         self.with_encoding::<UnixEncoding>(alloc)
     }
 
-    /// Returns the path as on Unix, unless a name or a drive `C:` of it is refused.
+    /// Returns the path as on Unix, unless a checked push refuses a name of it or its drive.
     ///
     /// # Errors
     ///
@@ -94,7 +95,7 @@ impl<'a, T: Encoding> Path<'a, T> {
         self.with_encoding_checked::<UnixEncoding>(alloc)
     }
 
-    /// Whether the encoding has the label of Windows.
+    /// Whether the encoding has the label of Windows; else it has that of Unix.
     pub fn has_windows_encoding(self) -> bool
         ensures { result ≡ same_dialect T.dialect windows }
     {
@@ -108,7 +109,7 @@ impl<'a, T: Encoding> Path<'a, T> {
         self.with_encoding::<WindowsEncoding>(alloc)
     }
 
-    /// Returns the path as on Windows, unless a name or a drive `C:` of it is refused.
+    /// Returns the path as on Windows, unless a checked push refuses a name of it or its drive.
     ///
     /// # Errors
     ///
@@ -122,7 +123,7 @@ impl<'a, T: Encoding> Path<'a, T> {
         self.with_encoding_checked::<WindowsEncoding>(alloc)
     }
 
-    /// Whether the encoding is [`PlatformEncoding`].
+    /// Whether the encoding is [`PlatformEncoding`] itself, and not the one that it stands for.
     pub fn has_platform_encoding(self) -> bool
         ensures { result ≡ T.IS_PLATFORM }
     {
@@ -137,7 +138,7 @@ impl<'a, T: Encoding> Path<'a, T> {
         self.with_encoding::<PlatformEncoding>(alloc)
     }
 
-    /// Returns the path as on the machine, unless a name or a drive `C:` of it is refused.
+    /// Returns the path as on the machine, unless a checked push refuses a name of it or its drive.
     ///
     /// # Errors
     ///
@@ -158,9 +159,9 @@ impl<'a, T: Encoding> Path<'a, T> {
     ///
     /// # Errors
     ///
-    /// `Ambiguous` if the path is absolute neither by itself nor after the directory, as `C:a` on
-    /// Windows after any, or a path after a directory that is relative. `OutOfMemory` if allocation
-    /// fails.
+    /// `Ambiguous` if neither the path nor what the push makes is absolute: the Unix path `a` from
+    /// `b`, and the Windows path `a` from `/home/u`, as `\home\u\a` has no prefix. `OutOfMemory` if
+    /// allocation fails.
     pub fn absolutize(
         self,
         alloc: Global,
@@ -496,8 +497,9 @@ fn push_piece_checked<U: Encoding>(
     Ok(U::push_next(text, start, piece.crossed(U::root_text()), known)?)
 }
 
-/// Checks a component that is to be pushed onto a path of the encoding `U`. A root, `.`, `..` and
-/// every prefix but a drive `C:` are never refused.
+/// Checks the bytes of a component as those of a path that is pushed, as [`Encoding::check`] of `U`
+/// does: on Windows the Unix name `..\x` is refused. A root, `.`, `..` and every prefix but a drive
+/// `C:` are never refused.
 #[inline(always)]
 fn check_component<U: Encoding>(piece: Piece<'_>) -> Result<(), CheckedPathError>
     ensures { error_of result ≡ crossing_fault U.dialect (part_of piece.entry) }

@@ -91,7 +91,8 @@ pub fn equality_is_an_equivalence(path: &[u8], other: &[u8], third: &[u8])
         → IsSame d path.now third.now }
 {}
 
-/// The paths of each dialect are in a total order.
+/// The order of the paths of each dialect is total. Paths that compare as equal, as `a//b` and
+/// `a/b`, compare alike with any third.
 pub fn order_is_total()
     ghost d: { Dialect }
     ensures { IsTotalOrder (path_cmp d) }
@@ -317,7 +318,8 @@ pub fn normalized_is_short(path: &[u8])
     ensures { length (normal_text d path.now) ≤ length path.now + 1 }
 {}
 
-/// A path in another dialect is at most one byte longer than the path.
+/// A path that was converted to a dialect, with or without checks, is at most one byte longer than
+/// before.
 pub fn converted_is_short(path: &[u8])
     ghost d: { Dialect }
     ensures converted { (e : Dialect) → length (converted d e path.now) ≤ length path.now + 1 }
@@ -375,9 +377,8 @@ pub fn within_is_a_preorder(path: &[u8], middle: &[u8], base: &[u8])
         → is_within d middle.now base.now ≡ true → is_within d path.now base.now ≡ true }
 {}
 
-/// If `keeps_prefix` is true of a base, two accepted paths joined to it in turn stay within it.
-///
-/// They are accepted if a checked join accepts each. The second is joined to what the first gave.
+/// If `keeps_prefix` is true of a base, what two checked joins in turn make of it is within it. The
+/// second is a join to what the first made.
 #[tactic(auto, using(crate::proofs::lemmas::promises::JoinedWithin::stays_within_twice))]
 pub fn joined_twice_is_within(base: &[u8], first: &[u8], second: &[u8])
     ghost d: { Dialect }
@@ -749,8 +750,9 @@ pub fn common_ancestor_is_longest(path: &[u8], other: &[u8])
 {}
 
 /// If a path with a file name gets one more extension, in which no byte separates its components,
-/// its parent stays, and its file name becomes the old one, a dot and the extension. The verbatim
-/// prefix that is named `UNC`, as `\\?\UNC`, is excepted.
+/// its parent stays, and its file name becomes the old one, a dot and the extension, or stays if
+/// that is empty. Paths are excepted whose prefix is the verbatim one named `UNC`: `\\?\UNC`, as in
+/// `\\?\UNC\\a`.
 pub fn added_extension_keeps_the_parent(path: &[u8], extension: &[u8])
     ghost d: { Dialect }
     ensures { ExtendsName d path.now extension.now }

@@ -7,10 +7,12 @@ mod lanes;
 mod names;
 mod prefix;
 mod separators;
+mod span;
+mod stems;
 mod step;
 mod unread;
 
-pub use cursor::{Begin, Body, Cursor, Span};
+pub use cursor::{Begin, Body, Cursor};
 pub use cut::{
     are_apart, base_end, bodies_behind_shared, cut_at, end_behind, have_other_fronts, order_behind,
     order_of_beginning, order_of_fronts, rests_behind_shared, shared_front, text_behind,
@@ -33,5 +35,7 @@ pub use separators::{
     Look, Separators, cut_at_separator, has_forbidden_or_device, has_valid_names, is_free_of,
     look_at_path,
 };
+pub use span::Span;
+pub use stems::split_name;
 pub use step::{Piece, PieceKind, Step, StepKind, is_dots, step_of};
 pub use unread::{PlacedPiece, Unread};

@@ -38,6 +38,7 @@ impl<'a, T: Encoding> Path<'a, T> {
     /// Returns the order of the path and `other` in lower case, by their components.
     ///
     /// `B` is greater than `a`, and `_` is less than `A`, since it is less than `a`.
+    #[inline(always)]
     pub fn cmp_ignore_ascii_case(self, other: Path<'_, T>) -> Ordering
         ensures { result ≡ path_cmp T.dialect (lowered T.dialect (path_bytes self.entry))
             (lowered T.dialect (path_bytes other.entry)) }

@@ -5,6 +5,7 @@ ghost use Rattle.std.specs.Prelude.{◌≡◌, ℕ, List, option_map, codes, ⊤
 ghost use Rattle.typed_path.specs.components.{Part, parts, Placed, end_of, kinds, written, as_written, comps, Dialect, root_of, dot, root as root_kind, parent as parent_kind, current as current_kind, is_name, is_parent, is_current};
 ghost use Rattle.typed_path.specs.texts.{has_text_names, have_text_names};
 ghost use Rattle.typed_path.specs.views.CursorViews.{items_left, slice_left};
+ghost use Rattle.typed_path.specs.views.UnreadViews.{placed_of};
 ghost use Rattle.typed_path.specs.views.PieceViews.{part_of};
 ghost use Rattle.typed_path.specs.views.Shown.{Shown, whole, text_alone};
 ghost use Rattle.typed_path.specs.scan.{last_of, but_last, slice_after_front, slice_after_back, first_part, last_part, LeavesFront, LeavesBack};
@@ -17,7 +18,7 @@ use crate::common::encoding::Encoding;
 use crate::common::path::Path;
 use crate::common::portable::{piece_fault, piece_may_be_device, refused_as};
 use crate::errors::PortableError;
-use crate::scan::{Cursor, Piece, PieceKind};
+use crate::scan::{Cursor, Piece, PieceKind, PlacedPiece};
 use std::alloc::AllocError;
 use std::fmt;
 use std::hash::Hash;
@@ -112,6 +113,17 @@ impl<'a, T: Encoding, I> Reading<'a, T, I> {
             ≡ end_of last }
     {
         self.cursor.last_end()
+    }
+
+    /// Returns the last component that is left, with its index in the whole path; `None` if none is
+    /// left.
+    ///
+    /// Of the Unix path `a/b//` it is `b`, at 2.
+    #[inline(always)]
+    pub fn last_placed(mut self) -> Option<PlacedPiece<'a>>
+        ensures { option_map placed_of result ≡ last_of (components_items self.entry) }
+    {
+        self.cursor.back_placed()
     }
 
     /// Whether the components that are left are those of an absolute path.
@@ -427,7 +439,7 @@ pub trait Component<'a>: Copy + fmt::Debug + Ord + Hash {
 
     ghost part: { Self → Part };
 
-    /// Returns the bytes of the component as in the path, but of a root `/`, or `\` on Windows.
+    /// Returns the bytes of the component as in the path; of a root always `/`, or `\` on Windows.
     fn as_bytes(&self) -> &'a [u8]
         ensures { result.now ≡ (part self.now).text };
 

@@ -55,7 +55,7 @@ pub trait Encoding: Sized {
     fn valid(name: &[u8]) -> bool
         ensures { result ≡ is_valid_name dialect name.now };
 
-    /// Whether the encoding allows every name of a path, as `valid` does.
+    /// Whether `valid` is true of each name of a path. The names of its prefix are not looked at.
     fn valid_names(path: &[u8]) -> bool
         ensures { result ≡ is_valid dialect (kinds (parts_of dialect path.now)) };
 
@@ -196,10 +196,10 @@ pub trait Encoding: Sized {
     /// Not for callers. Pushes `other` onto the path `text[start..]`, and returns what is known of
     /// the result. If allocation fails, `text` keeps its bytes.
     ///
-    /// What is known is the length of the prefix of a Windows path that has a verbatim one, as
-    /// `\\?\C:`, and one `\` between its components, as a push spells them there; `None` if that is
-    /// not known. A row of pushes hands it on, so that none has to read anew what stands there. If
-    /// `known` is wrong, all that holds is that `text` keeps its bytes if allocation fails.
+    /// What is known is the length of a verbatim prefix, if all is spelled as a push spells it: 6
+    /// for `\\?\C:\a`, and not for `\\?\C:\a\`; else `None`. Pushes in turn hand it on, so that
+    /// none has to read anew what stands there. If `known` is wrong, the bytes are unspecified, but
+    /// those of a failure.
     fn push_next(
         text: &mut Vec<u8>,
         start: usize,

@@ -18,9 +18,9 @@ use crate::common::portable::{first_unportable, have_device, looks_portable, ref
 use crate::common::relative::relative_to;
 use crate::common::rows::put_clean;
 use crate::common::within::{is_within, shared_end};
-use crate::common::writing::{dotted_len, first_stem, put_extension, split_name};
+use crate::common::writing::{dotted_len, put_extension};
 use crate::errors::{JoinError, PathError, PortableError, StripPrefixError};
-use crate::scan::{Piece, keeps_prefix};
+use crate::scan::{Piece, keeps_prefix, split_name};
 use std::alloc::{AllocError, Global};
 use std::marker::PhantomData;
 
@@ -134,6 +134,10 @@ impl<'a, T: Encoding> Path<'a, T> {
         if looks_portable::<T>(self.bytes) {
             return Ok(());
         }
+        // A prefix offends first, and is found without a list.
+        if T::cursor(self.bytes).prefix().is_some() {
+            return Err(PortableError::Prefix);
+        }
         refused_for(self.unportable())
     }
 
@@ -176,7 +180,7 @@ impl<'a, T: Encoding> Path<'a, T> {
         Reading::new(self)
     }
 
-    /// Returns an iterator over the texts of the components, from either end.
+    /// Returns an iterator over the texts of the components, from either end: a root is `/` or `\`.
     ///
     /// Those of the Unix path `/a/./b` are `/`, `a` and `b`.
     #[inline(always)]
@@ -218,12 +222,7 @@ impl<'a, T: Encoding> Path<'a, T> {
     pub fn file_name(self) -> Option<&'a [u8]>
         ensures { option_copied result ≡ file_name_of T.dialect (path_bytes self.entry) }
     {
-        let last = self.last()?;
-        if last.is_normal() {
-            Some(last.text)
-        } else {
-            None
-        }
+        self.last()?.file_name()
     }
 
     /// Returns the file name up to its last dot, or the whole file name if it has no dot but one at
@@ -233,8 +232,7 @@ impl<'a, T: Encoding> Path<'a, T> {
     pub fn file_stem(self) -> Option<&'a [u8]>
         ensures { option_copied result ≡ file_stem_of T.dialect (path_bytes self.entry) }
     {
-        let name = self.file_name()?;
-        Some(split_name(name).0)
+        self.last()?.file_stem()
     }
 
     /// Returns what follows the last dot of the file name. `None` if the path has no file name, or
@@ -244,7 +242,7 @@ impl<'a, T: Encoding> Path<'a, T> {
     pub fn extension(self) -> Option<&'a [u8]>
         ensures { option_copied result ≡ extension T.dialect (path_bytes self.entry) }
     {
-        split_name(self.file_name()?).1
+        self.last()?.extension()
     }
 
     /// Returns the file name up to its first dot that is not at its start, or the whole file name
@@ -254,8 +252,7 @@ impl<'a, T: Encoding> Path<'a, T> {
     pub fn file_prefix(self) -> Option<&'a [u8]>
         ensures { option_copied result ≡ file_prefix_of T.dialect (path_bytes self.entry) }
     {
-        let name = self.file_name()?;
-        Some(first_stem(name))
+        self.last()?.file_prefix()
     }
 
     /// Whether the last byte is a separator of the path, as that of `a/`, and of `/` alone. On
@@ -295,12 +292,11 @@ impl<'a, T: Encoding> Path<'a, T> {
         ensures end { result ≡ stem_end T.dialect (path_bytes self.entry) }
         ensures within { IfSome result (λ end. end ≤ length (path_bytes self.entry)) }
     {
-        let last = self.last()?;
-        if !last.is_normal() {
+        let last = self.components().last_placed()?;
+        if !last.piece.is_normal() {
             return None;
         }
-        let extension = last.text.len() - split_name(last.text).0.len();
-        Some(self.components().last_end() - extension)
+        Some(last.start + split_name(last.piece.text).0.len())
     }
 
     /// Returns the index at which the file name ends, `None` if there is none.
@@ -308,11 +304,11 @@ impl<'a, T: Encoding> Path<'a, T> {
         ensures end { result ≡ name_end T.dialect (path_bytes self.entry) }
         ensures within { IfSome result (λ end. end ≤ length (path_bytes self.entry)) }
     {
-        let last = self.last()?;
-        if !last.is_normal() {
+        let last = self.components().last_placed()?;
+        if !last.piece.is_normal() {
             return None;
         }
-        Some(self.components().last_end())
+        Some(last.start + last.piece.len())
     }
 
     /// Returns what is left of the path after `base`.
@@ -330,7 +326,8 @@ impl<'a, T: Encoding> Path<'a, T> {
         self.behind(base).ok_or(StripPrefixError)
     }
 
-    /// Whether the path begins with the components of `base`, compared as they are written.
+    /// Whether the path begins with the components of `base`, compared as they are written: on
+    /// Windows `C:/a` begins with `C:\`, and `c:\a` does not.
     ///
     /// `a/b` begins with `a`, and `ab` does not.
     pub fn starts_with(self, base: Path<'_, T>) -> bool
@@ -535,8 +532,8 @@ impl<'a, T: Encoding> Path<'a, T> {
     }
 
     /// Returns a copy without its file name, if it has one, and with `name` pushed onto that, as
-    /// [`Path::join`] pushes: one with a root or a prefix replaces what is there, and an empty one
-    /// adds nothing.
+    /// [`Path::join`] pushes: one with a prefix replaces what is there, one with a root all but the
+    /// prefix, and an empty one adds nothing.
     ///
     /// On Unix `a//b/` with `c` is `a/c`, and `a/..` with `c` is `a/../c`.
     pub fn with_file_name(self, alloc: Global, name: &[u8]) -> Result<PathBuf<T>, AllocError>

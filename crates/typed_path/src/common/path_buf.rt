@@ -144,7 +144,7 @@ impl<T: Encoding> PathBuf<T> {
 
     /// Pushes `path` as [`PathBuf::push`] does, and returns what is known of the result.
     ///
-    /// `known` is what is known of this path, as [`Encoding::push_next`] says: so a row of pushes
+    /// `known` is what is known of this path, as [`Encoding::push_next`] says: so pushes in turn
     /// need not read this path anew for each.
     pub(crate) fn push_next(
         &mut self,
@@ -181,8 +181,8 @@ impl<T: Encoding> PathBuf<T> {
     }
 
     /// Removes the file name, if there is one, and pushes `name` onto what is left, as
-    /// [`PathBuf::push`] does: one with a root or a prefix replaces that, and an empty one adds
-    /// nothing.
+    /// [`PathBuf::push`] does: one with a prefix replaces that, one with a root all but the prefix,
+    /// and an empty one adds nothing.
     ///
     /// On Unix `c` makes `a//b/` into `a/c`, and `a/..` into `a/../c`.
     ///

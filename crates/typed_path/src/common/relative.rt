@@ -75,7 +75,8 @@ pub(crate) fn near_steps<'a>(
     near_behind(own.body(), other.body(), separators)
 }
 
-/// Whether two paths have the same prefix or none, and both or neither are anchored.
+/// Whether two paths have the same prefix or none, and both or neither begin with a root, written
+/// or implied by a prefix other than `C:`: `C:\a` and `c:/b` do, `C:\a` and `C:a` do not.
 #[inline(always)]
 fn have_same_heads(own: Cursor<'_>, other: Cursor<'_>) -> bool
     ensures { result ≡ same_heads (kinds (parts (items_left own.entry)))

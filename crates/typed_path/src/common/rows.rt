@@ -258,8 +258,8 @@ fn leading_names(text: &[u8], separators: Separators) -> Leading
     leading_short_names(text, separators.pair())
 }
 
-/// Applies the segments of `path` one by one to the names in `text[floor..]`, as [`put_segment`]
-/// does.
+/// Appends the segments of `path` one by one to the names in `text[floor..]`; a `..` removes the
+/// last name, as [`put_segment`] does. `text[..floor]` stays, also if allocation fails.
 #[inline(always)]
 fn put_one_by_one(
     text: &mut Vec<u8>,

@@ -9,6 +9,7 @@ ghost use Rattle.typed_path.specs.scan.{pending, is_clean, but_last, last_of, sl
 use crate::errors::CheckedPathError;
 use crate::scan::prefix::{Found, WindowsPrefix, find_prefix};
 use crate::scan::separators::Separators;
+use crate::scan::span::Span;
 use crate::scan::step::{Piece, PieceKind, Step, back_step, depth_behind, front_step, trim_blanks};
 use crate::scan::unread::{PlacedPiece, Unread, begins_clean};
 
@@ -258,13 +259,30 @@ impl<'a> Cursor<'a> {
             ≡ slice_after_back (items_left self.old) (slice_left self.old) }
         ensures same { (d : Dialect) (t : List ℕ) → IsReadingOf d t self.old → IsReadingOf d t self.new }
     {
+        let (piece, _) = self.back_ended()?;
+        Some(piece)
+    }
+
+    /// Takes the last component left and returns it, with the index in the path just after it;
+    /// `None` if none is left.
+    #[inline(always)]
+    fn back_ended(&mut self) -> Option<(Piece<'a>, usize)>
+        ensures taken { option_map (λ ended. part_of ended.0) result ≡ last_part (items_left self.old) }
+        ensures items { items_left self.new ≡ but_last (items_left self.old) }
+        ensures slice { slice_left self.new
+            ≡ slice_after_back (items_left self.old) (slice_left self.old) }
+        ensures end { (last : Placed) → last_of (items_left self.old) ≡ Some last
+            → IfSome result (λ ended. ended.1 ≡ end_of last) }
+        ensures same { (d : Dialect) (t : List ℕ) → IsReadingOf d t self.old → IsReadingOf d t self.new }
+    {
         let mut body = rest!(self);
-        if let Some(step) = body.back() {
+        if let Some((step, end)) = body.back_ended() {
             *self = over!(body, self.prefix);
-            return Some(step.piece());
+            return Some((step.piece(), end));
         }
         let found = self.prefix?;
-        Some(self.take_prefix(found))
+        let end = self.from;
+        Some((self.take_prefix(found), end))
     }
 }
 
@@ -363,7 +381,8 @@ impl<'a> Cursor<'a> {
         }
     }
 
-    /// Returns the numbers from which [`Cursor::taken_up`] makes this cursor again.
+    /// Returns the numbers from which [`Cursor::taken_up`] makes this cursor of its path again:
+    /// where the bytes left begin and end, and the stage.
     #[inline(always)]
     pub(crate) fn numbers(&self) -> Unread
         ensures { result ≡ numbers_of self.now }
@@ -439,14 +458,11 @@ impl<'a> Cursor<'a> {
             ≡ slice_after_back (items_left self.old) (slice_left self.old) }
         ensures same { (d : Dialect) (t : List ℕ) → IsReadingOf d t self.old → IsReadingOf d t self.new }
     {
-        let end = self.last_end();
-        match self.back() {
-            Some(piece) => Some(PlacedPiece {
-                start: end.saturating_sub(piece.text.len()),
-                piece,
-            }),
-            None => None,
-        }
+        let (piece, end) = self.back_ended()?;
+        Some(PlacedPiece {
+            start: end - piece.text.len(),
+            piece,
+        })
     }
 }
 
@@ -725,46 +741,34 @@ impl<'a> Body<'a> {
         ensures begin { self.new.begin ≡ self.old.begin }
         ensures separators { self.new.separators ≡ self.old.separators }
     {
+        let (step, _) = self.back_ended()?;
+        Some(step)
+    }
+
+    /// Takes the last component left and returns it, with the index in the path just after it;
+    /// `None` if none is left.
+    #[inline(always)]
+    fn back_ended(&mut self) -> Option<(Step<'a>, usize)>
+        ensures taken { option_map (λ ended. step_part ended.0) result ≡ last_part (body_items self.old) }
+        ensures items { body_items self.new ≡ but_last (body_items self.old) }
+        ensures slice { body_slice self.new
+            ≡ slice_after_back (body_items self.old) (body_slice self.old) }
+        ensures text { self.new.text ≡ self.old.text }
+        ensures from { self.new.from ≡ self.old.from }
+        ensures shorter { self.new.to ≤ self.old.to }
+        ensures left { IfSome result
+            (λ _. self.new.to ≡ end_from self.old.from (but_last (body_items self.old))) }
+        ensures end { IfSome result (λ ended. ended.1 ≡ end_from self.old.from (body_items self.old)) }
+        ensures none { IfNone result (body_slice self.old ≡ []) }
+        ensures begin { self.new.begin ≡ self.old.begin }
+        ensures separators { self.new.separators ≡ self.old.separators }
+    {
         let left = self.as_bytes();
         if left.is_empty() {
             return None;
         }
-        let (step, kept) = back_step(left, self.separators);
+        let (step, kept, end) = back_step(left, self.separators);
         self.to = self.from + kept;
-        Some(step)
-    }
-}
-
-/// The first `len` bytes of `text`. Searches and copies may read the bytes after them, so that
-/// these can work on blocks of a fixed size.
-#[derive(Clone, Copy, Debug)]
-pub struct Span<'a> {
-    /// The bytes of the span, and those after it.
-    pub text: &'a [u8],
-    /// The length of the span in bytes.
-    pub len: usize,
-    ghost within: { len ≤ length text.now },
-}
-
-impl<'a> Span<'a> {
-    ghost use Rattle.typed_path.specs.views.SpanViews.{span_bytes};
-
-    /// Returns the span of all bytes of `text`.
-    #[inline(always)]
-    pub fn whole(text: &'a [u8]) -> Span<'a>
-        ensures { span_bytes result ≡ text.now }
-    {
-        Span {
-            text,
-            len: text.len(),
-        }
-    }
-
-    /// Returns the bytes of the span.
-    #[inline(always)]
-    pub fn as_bytes(self) -> &'a [u8]
-        ensures { result.now ≡ span_bytes self.entry }
-    {
-        &self.text[..self.len]
+        Some((step, self.from + end))
     }
 }

@@ -379,12 +379,11 @@ pub fn order_of_beginning(
     None
 }
 
-/// Returns what is left of two bodies after components that both begin with.
+/// Returns what is left of two bodies after components that both begin with: of `a/b/c` and `a/b`
+/// it is `c` and nothing, of `a/bx` and `a/by` it is `bx` and `by`.
 ///
-/// These are all of one body, if the other begins with its bytes and no segment spans their end;
-/// else those up to the last shared separator. If both rests are nothing but names with one
-/// separator between two, then one rest is empty, or their first names differ. `None` leaves it
-/// open.
+/// If both rests are nothing but names with one separator between two, then one rest is empty, or
+/// their first names differ. `None` leaves it open.
 #[inline(always)]
 pub fn rests_behind_shared<'a>(
     text: &'a [u8],

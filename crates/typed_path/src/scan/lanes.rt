@@ -432,7 +432,7 @@ pub fn first_difference(text: &[u8], other: &[u8]) -> usize
     first_place_of_difference::<false>(text, other)
 }
 
-/// Returns the first difference in ASCII lower case, or else the length of the shorter slice.
+/// Returns the index of the first difference in lower case, or the length of the shorter slice.
 pub fn first_difference_in_lower_case(text: &[u8], other: &[u8]) -> usize
     ensures { PartAt (str_to_ascii_lowercase text.now) (str_to_ascii_lowercase other.now) result }
 {

@@ -181,7 +181,7 @@ fn verbatim_disk(text: &[u8]) -> Option<Found<'_>>
 }
 
 /// Returns the prefix `\\?\name` at the front, or `None` if `text` begins otherwise. The name may
-/// be empty if a separator follows.
+/// be empty if a separator follows. Those of `\\?\C:` and `\\?\UNC\server` are looked for before.
 #[inline(always)]
 fn verbatim(separators: Separators, text: &[u8]) -> Option<Found<'_>>
     ensures { option_map found_of result ≡ verbatim_case separators text.now }

@@ -29,7 +29,8 @@ pub enum Separators {
 }
 
 impl Separators {
-    /// Returns the separators of a Windows path.
+    /// Returns the separators of a Windows path: `\` alone if it begins with just `\\?\`, else `/`
+    /// and `\`, as for `//?/C:/a`.
     #[inline]
     pub fn of_windows(text: &[u8]) -> Separators
         ensures { result ≡ separators windows text.now }

@@ -1,6 +1,6 @@
 //! The components of a path, and one step over them at either end of a slice.
 
-ghost use Rattle.std.specs.Prelude.{◌≡◌, ◌≤◌, ◌<◌, ◌+◌, ◌++◌, ◌||◌, ℕ, true, not, take, drop, length, IfSome, IfNone, ◌^◌, List, ◌∷◌, IfOk, IsTrue, ◌==◌};
+ghost use Rattle.std.specs.Prelude.{◌≡◌, ◌≤◌, ◌<◌, ◌+◌, ◌++◌, ◌||◌, ℕ, true, not, take, drop, length, IfSome, IfNone, ◌^◌, List, ◌∷◌, IfOk, IsTrue, ◌==◌, option_and_then, option_copied, option_map};
 ghost use Rattle.std.specs.List.{position_or_len};
 ghost use Rattle.typed_path.specs.components.{is_empty, is_dot, is_dot_dot, component, first, later_body, is_separator, dialect_of, Kind, is_name, is_parent, is_current};
 ghost use Rattle.typed_path.specs.scan.{body_from, is_clean, is_trimmed, end_from};
@@ -8,11 +8,12 @@ ghost use Rattle.typed_path.specs.views.PieceViews.{step_part, part_of};
 ghost use Rattle.typed_path.specs.declared.scan.cursor.Begin.{Begin};
 ghost use Rattle.typed_path.specs.declared.scan.step.StepKind.{StepKind};
 ghost use Rattle.typed_path.specs.changes.{fault_at, judged};
-ghost use Rattle.typed_path.specs.queries.{kind_has_allowed_bytes, is_root};
+ghost use Rattle.typed_path.specs.queries.{extension_of, first_stem_of, kind_has_allowed_bytes, is_root, name_of, stem_of};
 
 use crate::errors::CheckedPathError;
 use crate::scan::prefix::WindowsPrefix;
 use crate::scan::separators::Separators;
+use crate::scan::stems::{first_stem, split_name};
 
 /// What a component is.
 #[derive(Clone, Copy, Debug, PartialEq, Eq, PartialOrd, Ord, Hash)]
@@ -40,7 +41,7 @@ pub struct Piece<'a> {
 }
 
 impl<'a> Piece<'a> {
-    /// Returns the bytes of the component as in the path, but of a root `/`, or `\` on Windows.
+    /// Returns the bytes of the component as in the path; of a root always `/`, or `\` on Windows.
     pub fn as_bytes(self) -> &'a [u8]
         ensures { result.now ≡ (part_of self.entry).text }
     {
@@ -80,6 +81,49 @@ impl<'a> Piece<'a> {
         ensures { result ≡ is_current (part_of self.entry).kind }
     {
         matches!(self.kind, PieceKind::CurDir)
+    }
+
+    /// Returns the component if it is a name, else `None`.
+    pub fn file_name(self) -> Option<&'a [u8]>
+        ensures { option_copied result ≡ name_of (part_of self.entry).kind }
+    {
+        if self.is_normal() {
+            Some(self.text)
+        } else {
+            None
+        }
+    }
+
+    /// Returns a name up to its last dot, or the whole name if it has no dot but one at its start.
+    /// `None` if the component is no name.
+    ///
+    /// Of `a.tar.gz` it is `a.tar`, and of `.bashrc` it is `.bashrc`.
+    pub fn file_stem(self) -> Option<&'a [u8]>
+        ensures { option_copied result ≡ option_map stem_of (name_of (part_of self.entry).kind) }
+    {
+        let name = self.file_name()?;
+        Some(split_name(name).0)
+    }
+
+    /// Returns what follows the last dot of a name. `None` if the component is no name, or has no
+    /// dot but one at its start.
+    ///
+    /// Of `a.tar.gz` it is `gz`, of `a.` it is empty, and `.bashrc` has none.
+    pub fn extension(self) -> Option<&'a [u8]>
+        ensures { option_copied result ≡ option_and_then extension_of (name_of (part_of self.entry).kind) }
+    {
+        split_name(self.file_name()?).1
+    }
+
+    /// Returns a name up to its first dot that is not at its start, or the whole name if it has
+    /// none. `None` if the component is no name.
+    ///
+    /// Of `a.tar.gz` it is `a`, and of `.config.toml` it is `.config`.
+    pub fn file_prefix(self) -> Option<&'a [u8]>
+        ensures { option_copied result ≡ option_map first_stem_of (name_of (part_of self.entry).kind) }
+    {
+        let name = self.file_name()?;
+        Some(first_stem(name))
     }
 
     /// Returns how many bytes the component has.
@@ -232,10 +276,10 @@ fn blank(text: &[u8], separators: Separators) -> Option<usize>
     }
 }
 
-/// Returns the last component of `text`, which begins with a component, and the index just after
-/// the component before it, or 0 if there is none.
+/// Returns the last component of `text`, which begins with a component, the index just after the
+/// component before it, or 0 if there is none, and the index just after the last one.
 #[inline(always)]
-pub fn back_step(text: &[u8], separators: Separators) -> (Step<'_>, usize)
+pub fn back_step(text: &[u8], separators: Separators) -> (Step<'_>, usize, usize)
     requires { 0 < length text.now }
     ensures within { result.1 ≤ length text.now }
     ensures last { (begin : Begin) (at : ℕ) → is_clean begin separators text.now ≡ true
@@ -246,14 +290,18 @@ pub fn back_step(text: &[u8], separators: Separators) -> (Step<'_>, usize)
         → end_from at (body_from begin separators at (take result.1 text.now)) ≡ at + result.1 }
     ensures clean { (begin : Begin) → is_clean begin separators text.now ≡ true
         → is_clean begin separators (take result.1 text.now) ≡ true }
+    ensures end { (begin : Begin) (at : ℕ) → is_clean begin separators text.now ≡ true
+        → end_from at (body_from begin separators at text.now) ≡ at + result.2 }
+    ensures end_within { result.2 ≤ length text.now }
 {
-    let last = &text[..trim_blanks(text, separators)];
+    let end = trim_blanks(text, separators);
+    let last = &text[..end];
     let start = separators.last_in(last);
     let step = step_of(&last[start..], separators);
     if start == last.len() {
-        return (step, 0);
+        return (step, 0, end);
     }
-    (step, trim_blanks(&last[..start], separators))
+    (step, trim_blanks(&last[..start], separators), end)
 }
 
 /// Returns the index just after the last component of `text`. Skips separators at the end and,

@@ -135,8 +135,8 @@ impl<'a> TypedPath<'a> {
     }
 }
 
-/// Returns the cursor over what a reading at these numbers has left, `None` if no reading of the
-/// path may stand there.
+/// Returns the cursor over what a reading of `path` has left if its numbers are `unread`; `None` if
+/// no reading may stand at these, as [`TypedPath::step_front`] says.
 #[inline(always)]
 fn taken_up<'a>(path: TypedPath<'a>, unread: Unread) -> Option<Cursor<'a>>
     ensures told { is_some result

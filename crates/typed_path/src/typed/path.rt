@@ -278,7 +278,7 @@ impl<'a> TypedPath<'a> {
     }
 
     /// Whether the path begins with the components of `base`, read in the same dialect and compared
-    /// as they are written.
+    /// as they are written: on Windows `C:/a` begins with `C:\`, and `c:\a` does not.
     pub fn starts_with(self, base: &[u8]) -> bool
         ensures { result
             ≡ path_starts_with (typed_dialect self.entry) (typed_bytes self.entry) base.now }
@@ -332,7 +332,7 @@ impl<'a> TypedPath<'a> {
 
     /// Whether the path lies at `base` or below it, whichever directory both are read from.
     ///
-    /// `base` is read in the same dialect.
+    /// `base` is read in the same dialect. [`crate::Path::is_within`] says what that is on Windows.
     pub fn is_within(self, base: &[u8]) -> bool
         ensures { result ≡ is_within (typed_dialect self.entry) (typed_bytes self.entry) base.now }
     {
@@ -371,7 +371,7 @@ impl<'a> TypedPath<'a> {
         TypedComponents::new(self)
     }
 
-    /// Returns an iterator over the texts of the components, from either end.
+    /// Returns an iterator over the texts of the components, from either end: a root is `/` or `\`.
     #[inline(always)]
     pub fn iter(self) -> TypedIter<'a>
         ensures dialect { typed_dialect result ≡ typed_dialect self.entry }
@@ -433,8 +433,8 @@ impl<'a> TypedPath<'a> {
     }
 
     /// Returns a copy without its file name, if it has one, and with `name` pushed onto that, as
-    /// [`TypedPath::join`] pushes: one with a root or a prefix replaces what is there, and an empty
-    /// one adds nothing.
+    /// [`TypedPath::join`] pushes: one with a prefix replaces what is there, one with a root all
+    /// but the prefix, and an empty one adds nothing.
     pub fn with_file_name(self, alloc: Global, name: &[u8]) -> Result<TypedPathBuf, AllocError>
         ensures dialect { IfOk result (λ p. typed_dialect p ≡ typed_dialect self.entry) }
         ensures bytes { IfOk result (λ p. owned_bytes p
@@ -553,7 +553,7 @@ impl<'a> TypedPath<'a> {
         Ok(Typed::Unix(each!(self, path => path.with_unix_encoding(alloc))?))
     }
 
-    /// Returns the path as on Unix, unless a name or a drive `C:` of it is refused.
+    /// Returns the path as on Unix, unless a checked push refuses a name of it or its drive.
     ///
     /// Each name and each drive is put by a checked push, all else by a plain one, even if it is a
     /// Unix path.
@@ -579,7 +579,7 @@ impl<'a> TypedPath<'a> {
         Ok(Typed::Windows(each!(self, path => path.with_windows_encoding(alloc))?))
     }
 
-    /// Returns the path as on Windows, unless a name or a drive `C:` of it is refused.
+    /// Returns the path as on Windows, unless a checked push refuses a name of it or its drive.
     ///
     /// Each name and each drive is put by a checked push, all else by a plain one, even if it is a
     /// Windows path. So the Windows path `C:\a` is refused, and no component `..` is.

@@ -502,8 +502,8 @@ impl TypedPathBuf {
         self.to_path().components()
     }
 
-    /// Returns an iterator over the texts of the components, from either end. See
-    /// [`TypedPath::iter`].
+    /// Returns an iterator over the texts of the components, from either end. That of a root is
+    /// `/`, or `\` on Windows. See [`TypedPath::iter`].
     pub fn iter(&self) -> TypedIter<'_>
         ensures dialect { typed_dialect result ≡ typed_dialect self.now }
         ensures items { typed_iter_items result
@@ -631,7 +631,8 @@ impl TypedPathBuf {
         self.to_path().absolutize_from(alloc, directory)
     }
 
-    /// Returns the path as on Unix. See [`TypedPath::with_unix_encoding`].
+    /// Returns the path as on Unix: a copy, or its components pushed one by one, a root as `/`, so
+    /// that `\a\\b\` is `/a/b`. See [`TypedPath::with_unix_encoding`].
     pub fn with_unix_encoding(&self, alloc: Global) -> Result<TypedPathBuf, AllocError>
         ensures dialect { IfOk result (λ p. typed_dialect p ≡ unix) }
         ensures bytes { IfOk result (λ p. owned_bytes p
@@ -640,7 +641,7 @@ impl TypedPathBuf {
         self.to_path().with_unix_encoding(alloc)
     }
 
-    /// Returns the path as on Unix, unless a name or a drive `C:` of it is refused. See
+    /// Returns the path as on Unix, unless a checked push refuses a name of it or its drive. See
     /// [`TypedPath::with_unix_encoding_checked`].
     pub fn with_unix_encoding_checked(&self, alloc: Global) -> Result<TypedPathBuf, PathError>
         ensures dialect { IfOk result (λ p. typed_dialect p ≡ unix) }
@@ -650,7 +651,8 @@ impl TypedPathBuf {
         self.to_path().with_unix_encoding_checked(alloc)
     }
 
-    /// Returns the path as on Windows. See [`TypedPath::with_windows_encoding`].
+    /// Returns the path as on Windows: a copy, or its components pushed one by one, a root as `\`,
+    /// so that `/a//b/` is `\a\b`. See [`TypedPath::with_windows_encoding`].
     pub fn with_windows_encoding(&self, alloc: Global) -> Result<TypedPathBuf, AllocError>
         ensures dialect { IfOk result (λ p. typed_dialect p ≡ windows) }
         ensures bytes { IfOk result (λ p. owned_bytes p
@@ -659,7 +661,7 @@ impl TypedPathBuf {
         self.to_path().with_windows_encoding(alloc)
     }
 
-    /// Returns the path as on Windows, unless a name or a drive `C:` of it is refused. See
+    /// Returns the path as on Windows, unless a checked push refuses a name of it or its drive. See
     /// [`TypedPath::with_windows_encoding_checked`].
     pub fn with_windows_encoding_checked(&self, alloc: Global) -> Result<TypedPathBuf, PathError>
         ensures dialect { IfOk result (λ p. typed_dialect p ≡ windows) }

@@ -208,7 +208,7 @@ impl<'a> TypedComponent<'a> {
         TypedPath::derive(self.as_bytes())
     }
 
-    /// Returns the bytes of the component as in the path, but of a root `/`, or `\` on Windows.
+    /// Returns the bytes of the component as in the path; of a root always `/`, or `\` on Windows.
     pub fn as_bytes(self) -> &'a [u8]
         ensures { result.now ≡ (typed_part self.entry).text }
     {

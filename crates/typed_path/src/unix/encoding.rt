@@ -141,7 +141,7 @@ impl Encoding for UnixEncoding {
     }
 }
 
-/// Pushes `other` onto the path `text[start..kept]`, and cuts off what follows `kept`. If
+/// Pushes `other` onto the Unix path `text[start..kept]`, and cuts off what follows `kept`. If
 /// allocation fails, `text` is unchanged.
 #[inline(always)]
 pub fn push_at(

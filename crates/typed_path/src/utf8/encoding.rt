@@ -90,7 +90,7 @@ pub trait Utf8Component<'a>: Copy + fmt::Debug + Ord + Hash {
 
     ghost part: { Self → Part };
 
-    /// Returns the text of the component as in the path, but of a root `/`, or `\` on Windows.
+    /// Returns the text of the component as in the path; of a root always `/`, or `\` on Windows.
     fn as_str(&self) -> &'a str
         ensures { result.now ≡ (part self.now).text };
 

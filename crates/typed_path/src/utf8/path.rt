@@ -237,7 +237,7 @@ impl<'a, T: Utf8Encoding> Utf8Path<'a, T> {
         Utf8Reading::new(self)
     }
 
-    /// Returns an iterator over the texts of the components, from either end.
+    /// Returns an iterator over the texts of the components, from either end: a root is `/` or `\`.
     #[inline(always)]
     pub fn iter(self) -> Utf8Iter<'a, T>
         ensures items { reading_items result ≡ comps T.Bytes.dialect (utf8_bytes self.entry) }
@@ -320,7 +320,8 @@ impl<'a, T: Utf8Encoding> Utf8Path<'a, T> {
         }
     }
 
-    /// Whether the path begins with the components of `base`, compared as they are written.
+    /// Whether the path begins with the components of `base`, compared as they are written: on
+    /// Windows `C:/a` begins with `C:\`, and `c:\a` does not.
     pub fn starts_with(self, base: Utf8Path<'_, T>) -> bool
         ensures { result ≡ path_starts_with T.Bytes.dialect (utf8_bytes self.entry)
             (utf8_bytes base.entry) }
@@ -481,8 +482,8 @@ impl<'a, T: Utf8Encoding> Utf8Path<'a, T> {
     }
 
     /// Returns a copy without its file name, if it has one, and with `name` pushed onto that, as
-    /// [`Utf8Path::join`] pushes: one with a root or a prefix replaces what is there, and an empty
-    /// one adds nothing.
+    /// [`Utf8Path::join`] pushes: one with a prefix replaces what is there, one with a root all but
+    /// the prefix, and an empty one adds nothing.
     pub fn with_file_name(self, alloc: Global, name: &str) -> Result<Utf8PathBuf<T>, AllocError>
         ensures { IfOk result
             (λ p. p.bytes ≡ with_file_name T.Bytes.dialect (utf8_bytes self.entry) name.now) }
@@ -563,7 +564,8 @@ impl<'a, T: Utf8Encoding> Utf8Path<'a, T> {
         owned!(self.as_bytes_path().with_encoding::<U::Bytes>(alloc))
     }
 
-    /// Returns the path in the encoding `U`, unless a name or a drive `C:` of it is refused.
+    /// Returns the path in the encoding `U`, unless a checked push refuses a name of it or its
+    /// drive.
     ///
     /// Its components are put one by one onto the empty path, each name and each drive by a checked
     /// push, all else by a plain one, even if `U` has the label of this encoding.
@@ -599,7 +601,7 @@ impl<'a, T: Utf8Encoding> Utf8Path<'a, T> {
         self.with_encoding::<Utf8UnixEncoding>(alloc)
     }
 
-    /// Returns the path as on Unix, unless a name or a drive `C:` of it is refused, as
+    /// Returns the path as on Unix, unless a checked push refuses a name of it or its drive, as
     /// [`Utf8Path::with_encoding_checked`] says.
     pub fn with_unix_encoding_checked(self, alloc: Global) -> Result<Utf8UnixPathBuf, PathError>
         ensures { ConvertsChecked T.Bytes.dialect unix
@@ -608,7 +610,7 @@ impl<'a, T: Utf8Encoding> Utf8Path<'a, T> {
         self.with_encoding_checked::<Utf8UnixEncoding>(alloc)
     }
 
-    /// Whether the encoding has the label of Windows.
+    /// Whether the encoding has the label of Windows; else it has that of Unix.
     pub fn has_windows_encoding(self) -> bool
         ensures { result ≡ same_dialect T.Bytes.dialect windows }
     {
@@ -623,7 +625,7 @@ impl<'a, T: Utf8Encoding> Utf8Path<'a, T> {
         self.with_encoding::<Utf8WindowsEncoding>(alloc)
     }
 
-    /// Returns the path as on Windows, unless a name or a drive `C:` of it is refused, as
+    /// Returns the path as on Windows, unless a checked push refuses a name of it or its drive, as
     /// [`Utf8Path::with_encoding_checked`] says.
     pub fn with_windows_encoding_checked(
         self,
@@ -635,7 +637,7 @@ impl<'a, T: Utf8Encoding> Utf8Path<'a, T> {
         self.with_encoding_checked::<Utf8WindowsEncoding>(alloc)
     }
 
-    /// Whether the encoding is [`Utf8PlatformEncoding`].
+    /// Whether the encoding is [`Utf8PlatformEncoding`] itself, and not the one that it stands for.
     pub fn has_platform_encoding(self) -> bool
         ensures { result ≡ T.IS_PLATFORM }
     {
@@ -650,8 +652,8 @@ impl<'a, T: Utf8Encoding> Utf8Path<'a, T> {
         self.with_encoding::<Utf8PlatformEncoding>(alloc)
     }
 
-    /// Returns the path as on the machine, unless a name or a drive `C:` of it is refused, as
-    /// [`Utf8Path::with_encoding_checked`] says.
+    /// Returns the path as on the machine, unless a checked push refuses a name of it or its drive,
+    /// as [`Utf8Path::with_encoding_checked`] says.
     pub fn with_platform_encoding_checked(
         self,
         alloc: Global,

@@ -197,8 +197,8 @@ impl<T: Utf8Encoding> Utf8PathBuf<T> {
     }
 
     /// Removes the file name, if there is one, and pushes `name` onto what is left, as
-    /// [`Utf8PathBuf::push`] does: one with a root or a prefix replaces that, and an empty one adds
-    /// nothing.
+    /// [`Utf8PathBuf::push`] does: one with a prefix replaces that, one with a root all but the
+    /// prefix, and an empty one adds nothing.
     ///
     /// If allocation fails, the path is unchanged, and its capacity is no less.
     pub fn set_file_name(&mut self, name: &str) -> Result<(), AllocError>

@@ -226,7 +226,7 @@ pub struct Utf8Piece<'a> {
 }
 
 impl<'a> Utf8Piece<'a> {
-    /// Returns the text of the component as in the path, but of a root `/`, or `\` on Windows.
+    /// Returns the text of the component as in the path; of a root always `/`, or `\` on Windows.
     pub fn as_str(self) -> &'a str
         ensures { result.now ≡ (text_part self.entry).text }
     {

@@ -274,9 +274,9 @@ fn shared_written_prefix(path: &[u8], other: &[u8], shared: usize) -> Option<(us
     Some((found.length, Separators::of_windows(path)))
 }
 
-/// Returns the length in bytes of the drive `C:` that two paths begin with, or 0 if neither has a
-/// prefix. `None` leaves it open: the drives differ, only one has one, or a path begins with two
-/// separators.
+/// Returns the length in bytes of the drive that two paths begin with, 2 for `C:\a` and `c:b`, or 0
+/// if neither has a prefix. `None` leaves it open: the drives differ, only one has one, or a path
+/// begins with two separators.
 #[inline(always)]
 fn shared_drive(path: &[u8], other: &[u8]) -> Option<usize>
     ensures one { IfSome result (λ end. HaveOnePrefix path.now other.now end Separators.Either) }

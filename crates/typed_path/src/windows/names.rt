@@ -31,7 +31,7 @@ pub fn prefix_names(path: &[u8]) -> Option<PrefixNames>
     Some(names_of(path, found))
 }
 
-/// Returns where the names of the prefix of `path` are, which is `found`.
+/// Returns where in `path` the names of its prefix `found` are: in `\\server\share` at 2 and at 9.
 fn names_of(path: &[u8], found: Found<'_>) -> PrefixNames
     requires { Some (found_of found) ≡ prefix_of windows path.now }
     ensures { AreNamesOf path.now (prefix_view found.entry.kind) result.first result.first_end

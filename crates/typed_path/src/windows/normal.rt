@@ -252,9 +252,10 @@ fn put_one_by_one(text: &mut Vec<u8>, len: usize, path: &[u8]) -> Result<bool, A
     put_segment(text, len, rest, rest)
 }
 
-/// Applies `segment`, with which `rest` begins, to the names in `text[len..]`: appends a name and a
-/// `\`, removes the last name for `..`, skips an empty segment and `.`. Returns `false`, changing
-/// nothing, if it begins with a drive `C:`. Spare capacity for `rest` and one byte more is enough.
+/// Applies `segment`, the front of `rest`, to the names in `text[len..]`: appends a name and a `\`,
+/// removes the last name, if there is one, for `..`, skips an empty segment and `.`. Returns
+/// `false`, changing nothing, if it begins with a drive `C:`. With spare capacity for `rest` and
+/// one byte more nothing is allocated.
 #[inline(always)]
 fn put_segment(
     text: &mut Vec<u8>,

@@ -22,7 +22,7 @@ use crate::scan::{
 };
 use std::alloc::{AllocError, Global};
 
-/// Pushes `other` onto the path `text[start..kept]`, and cuts off what follows `kept`. If
+/// Pushes `other` onto the Windows path `text[start..kept]`, and cuts off what follows `kept`. If
 /// allocation fails, `text` is unchanged. `known` is what [`push_next`] returned for the path, or
 /// `None`; if it is wrong, the result is unspecified.
 pub fn push_at(
@@ -104,7 +104,8 @@ pub fn push_place(base: &[u8], other: &[u8]) -> Option<PushPlace>
     })
 }
 
-/// Returns what `base` needs at its end before a relative path: a separator or nothing.
+/// Returns what a push puts between the Windows path `base` and a relative path: nothing if `base`
+/// is empty, ends with `\` or is only a drive `C:`, else `\`, even after `a/`.
 pub fn separator_behind(base: &[u8]) -> &'static [u8]
     ensures text { ended_windows base.now ≡ base.now ++ result.now }
     ensures short { length result.now ≤ 1 }
@@ -529,8 +530,8 @@ fn behind_dot(path: &[u8]) -> &[u8]
     }
 }
 
-/// Appends `names`, which have separators between them, to the components `text[head..]` after a
-/// prefix, with `\` for each separator.
+/// Appends `names`, which have one separator between two, to the components `text[head..]` after a
+/// prefix, with a `\` before the first, as [`put_component`] puts it, and for each separator.
 #[inline(always)]
 fn put_names(text: &mut Vec<u8>, head: usize, names: &[u8]) -> Result<(), AllocError>
     requires within { head ≤ length text.old.items }

@@ -11,11 +11,13 @@ use Rattle.std.specs.Ordering.{is_eq}
 use Rattle.typed_path.specs.declared.scan.separators.Separators.{Separators}
 use Rattle.typed_path.specs.declared.scan.separators.Separators.TheVariants.{Slash}
 use Rattle.typed_path.specs.declared.scan.step.Piece.{Piece}
+use Rattle.typed_path.specs.declared.scan.unread.PlacedPiece.{PlacedPiece}
 use Rattle.typed_path.specs.components.{Dialect, unix, windows, separators, is_separator, Part, Placed, prefix_part, Kind, prefix, root, current, parent, normal, parts, kinds, is_name, end_of, name_part, comps, body, comps_behind, component, parts_of, Found, prefix_of}
 use Rattle.typed_path.specs.scan.{last_part, back, left, last_of, but_last, end_at, slice_after_back, first_of, AreInOrder}
 use Rattle.typed_path.specs.queries.{is_root, parent_of, name_of, file_name_of, upwards, is_top, upwards_from, readings_behind, readings_above, ancestors_of, is_read_as, is_child_of, IsOneBelow, stem_of}
 use Rattle.typed_path.specs.order.{kinds_cmp, kinds_cmp_total, exact_lists, exact_kinds}
 use Rattle.typed_path.specs.views.PieceViews.{part_of}
+use Rattle.typed_path.specs.views.UnreadViews.{placed_of}
 use Rattle.typed_path.specs.changes.{popped, without_file_name, stem_end, name_end}
 use Rattle.typed_path.proofs.lemmas.scan.Readings.{left-taken, left-parent, stepwise_slices}
 use Rattle.typed_path.proofs.lemmas.components.Cuts.{body-take, comps-laid_out}
@@ -345,3 +347,14 @@ last-within d t c is = by (comps d t) is (comps-laid_out d t).in_order
         let last = last_pushed b cs in
         let same : last.0 ≡ c = same_Some _ _ (sym (last_of-push (but_last (b ∷ cs)) last.0) ∙ ap last_of (sym last.1) ∙ e) in
         subst (λ l. end_of l ≤ length t) same (in_order-last 0 (length t) (but_last (b ∷ cs)) last.0 (subst (λ ds. AreInOrder 0 (length t) ds) last.1 h))
+
+-- a last component that is a name ends where that does, and its stem where that of the name does
+pub placed_name : (d : Dialect) (t : List ℕ) (p : PlacedPiece) → Some (placed_of p) ≡ last_of (comps d t) → is_name (part_of p.piece).kind ≡ true
+    → (stem_end d t ≡ Some (p.start + length (stem_of p.piece.text.now))) × (name_end d t ≡ Some (p.start + length p.piece.text.now)) × (p.start + length p.piece.text.now ≤ length t)
+placed_name d t p is named =
+    let name = has_name d t p.piece (ap (option_map (λ c. c.part)) is) named in
+    let same : name.last ≡ placed_of p = cc (is ∙ name.is_last) in (
+      stem_end-name d t p.piece.text.now name ∙ ap (λ c. Some (c.start + length (stem_of p.piece.text.now))) same,
+      name_end-name d t p.piece.text.now name ∙ ap (λ c. Some (c.start + length p.piece.text.now)) same,
+      last-within d t (placed_of p) (sym is),
+    )

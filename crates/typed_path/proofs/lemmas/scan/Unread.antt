@@ -38,6 +38,13 @@ placed_to (Some c) p end e ends =
     let same : p ≡ c.part = cc e in
     ap₂ (λ part start. Some (record { part = part; start = start })) same (omega (arith, ends c refl, ap (λ q. length q.text) same))
 
+-- and has no more bytes than stand before that place
+pub placed_fits : (o : Option Placed) (p : Part) (end : ℕ) → Some p ≡ option_map (λ c. c.part) o → ((c : Placed) → o ≡ Some c → end ≡ end_of c) → length p.text ≤ end
+placed_fits None p end e ends = cc e
+placed_fits (Some c) p end e ends =
+    let same : p ≡ c.part = cc e in
+    omega (arith, ends c refl, ap (λ q. length q.text) same)
+
 -- A path of which nothing was taken from the front.
 
 -- how many bytes the prefix takes that was looked up

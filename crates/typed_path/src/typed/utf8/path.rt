@@ -252,7 +252,7 @@ impl<'a> Utf8TypedPath<'a> {
     }
 
     /// Whether the path begins with the components of `base`, read in the same dialect and compared
-    /// as they are written.
+    /// as they are written: on Windows `C:/a` begins with `C:\`, and `c:\a` does not.
     pub fn starts_with(self, base: &str) -> bool
         ensures { result
             ≡ path_starts_with (typed_dialect self.entry) (typed_text self.entry) base.now }
@@ -356,7 +356,7 @@ impl<'a> Utf8TypedPath<'a> {
         Utf8TypedComponents::new(self)
     }
 
-    /// Returns an iterator over the texts of the components, from either end.
+    /// Returns an iterator over the texts of the components, from either end: a root is `/` or `\`.
     #[inline(always)]
     pub fn iter(self) -> Utf8TypedIter<'a>
         ensures dialect { typed_dialect result ≡ typed_dialect self.entry }
@@ -418,8 +418,8 @@ impl<'a> Utf8TypedPath<'a> {
     }
 
     /// Returns a copy without its file name, if it has one, and with `name` pushed onto that, as
-    /// [`Utf8TypedPath::join`] pushes: one with a root or a prefix replaces what is there, and an
-    /// empty one adds nothing.
+    /// [`Utf8TypedPath::join`] pushes: one with a prefix replaces what is there, one with a root
+    /// all but the prefix, and an empty one adds nothing.
     pub fn with_file_name(self, alloc: Global, name: &str) -> Result<Utf8TypedPathBuf, AllocError>
         ensures dialect { IfOk result (λ p. typed_dialect p ≡ typed_dialect self.entry) }
         ensures bytes { IfOk result (λ p. owned_bytes p
@@ -543,7 +543,7 @@ impl<'a> Utf8TypedPath<'a> {
         Ok(Typed::Unix(each!(self, path => path.with_unix_encoding(alloc))?))
     }
 
-    /// Returns the path as on Unix, unless a name or a drive `C:` of it is refused.
+    /// Returns the path as on Unix, unless a checked push refuses a name of it or its drive.
     ///
     /// Each name and each drive is put by a checked push, all else by a plain one, even if it is a
     /// Unix path.
@@ -569,7 +569,7 @@ impl<'a> Utf8TypedPath<'a> {
         Ok(Typed::Windows(each!(self, path => path.with_windows_encoding(alloc))?))
     }
 
-    /// Returns the path as on Windows, unless a name or a drive `C:` of it is refused.
+    /// Returns the path as on Windows, unless a checked push refuses a name of it or its drive.
     ///
     /// Each name and each drive is put by a checked push, all else by a plain one, even if it is a
     /// Windows path. So the Windows path `C:\a` is refused, and no component `..` is.

@@ -353,7 +353,8 @@ impl Utf8TypedPathBuf {
         self.to_path().file_stem()
     }
 
-    /// Returns what follows the last dot of the file name. See [`Utf8TypedPath::extension`].
+    /// Returns what follows the last dot of the file name, if it has an extension. See
+    /// [`Utf8TypedPath::extension`].
     pub fn extension(&self) -> Option<&str>
         ensures { option_copied result ≡ extension (typed_dialect self.now) (owned_bytes self.now) }
     {
@@ -483,8 +484,8 @@ impl Utf8TypedPathBuf {
         self.to_path().components()
     }
 
-    /// Returns an iterator over the texts of the components, from either end. See
-    /// [`Utf8TypedPath::iter`].
+    /// Returns an iterator over the texts of the components, from either end. That of a root is
+    /// `/`, or `\` on Windows. See [`Utf8TypedPath::iter`].
     pub fn iter(&self) -> Utf8TypedIter<'_>
         ensures dialect { typed_dialect result ≡ typed_dialect self.now }
         ensures items { typed_text_iter_items result
@@ -612,7 +613,8 @@ impl Utf8TypedPathBuf {
         self.to_path().absolutize_from(alloc, directory)
     }
 
-    /// Returns the path as on Unix. See [`Utf8TypedPath::with_unix_encoding`].
+    /// Returns the path as on Unix: a copy, or its components pushed one by one, a root as `/`, so
+    /// that `\a\\b\` is `/a/b`. See [`Utf8TypedPath::with_unix_encoding`].
     pub fn with_unix_encoding(&self, alloc: Global) -> Result<Utf8TypedPathBuf, AllocError>
         ensures dialect { IfOk result (λ p. typed_dialect p ≡ unix) }
         ensures bytes { IfOk result (λ p. owned_bytes p
@@ -621,7 +623,7 @@ impl Utf8TypedPathBuf {
         self.to_path().with_unix_encoding(alloc)
     }
 
-    /// Returns the path as on Unix, unless a name or a drive `C:` of it is refused. See
+    /// Returns the path as on Unix, unless a checked push refuses a name of it or its drive. See
     /// [`Utf8TypedPath::with_unix_encoding_checked`].
     pub fn with_unix_encoding_checked(&self, alloc: Global) -> Result<Utf8TypedPathBuf, PathError>
         ensures dialect { IfOk result (λ p. typed_dialect p ≡ unix) }
@@ -631,7 +633,8 @@ impl Utf8TypedPathBuf {
         self.to_path().with_unix_encoding_checked(alloc)
     }
 
-    /// Returns the path as on Windows. See [`Utf8TypedPath::with_windows_encoding`].
+    /// Returns the path as on Windows: a copy, or its components pushed one by one, a root as `\`,
+    /// so that `/a//b/` is `\a\b`. See [`Utf8TypedPath::with_windows_encoding`].
     pub fn with_windows_encoding(&self, alloc: Global) -> Result<Utf8TypedPathBuf, AllocError>
         ensures dialect { IfOk result (λ p. typed_dialect p ≡ windows) }
         ensures bytes { IfOk result (λ p. owned_bytes p
@@ -640,7 +643,7 @@ impl Utf8TypedPathBuf {
         self.to_path().with_windows_encoding(alloc)
     }
 
-    /// Returns the path as on Windows, unless a name or a drive `C:` of it is refused. See
+    /// Returns the path as on Windows, unless a checked push refuses a name of it or its drive. See
     /// [`Utf8TypedPath::with_windows_encoding_checked`].
     pub fn with_windows_encoding_checked(&self, alloc: Global) -> Result<Self, PathError>
         ensures dialect { IfOk result (λ p. typed_dialect p ≡ windows) }

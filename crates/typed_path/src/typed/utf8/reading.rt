@@ -175,7 +175,7 @@ impl<'a> Utf8TypedComponent<'a> {
         Utf8TypedPath::derive(self.as_str())
     }
 
-    /// Returns the text of the component as in the path, but of a root `/`, or `\` on Windows.
+    /// Returns the text of the component as in the path; of a root always `/`, or `\` on Windows.
     pub fn as_str(self) -> &'a str
         ensures { result.now ≡ (typed_text_part self.entry).text }
     {

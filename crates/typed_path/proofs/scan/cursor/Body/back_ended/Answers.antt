@@ -4,8 +4,8 @@ use Rattle.typed_path.specs.scan.{but_last, slice_after_back, body_from, is_clea
 use Rattle.typed_path.specs.views.BodyViews.{body_items}
 use Rattle.typed_path.specs.views.PieceViews.{step_part}
 use Rattle.typed_path.proofs.lemmas.scan.Steps.{last_part-push, but_last-push, starts-body_from, slice_after_back-push}
-use Rattle.typed_path.proofs.scan.cursor.Body.back.Goals as goal
-use Rattle.typed_path.proofs.scan.cursor.Body.back.Goals.{After-back_step-kept}
+use Rattle.typed_path.proofs.scan.cursor.Body.back_ended.Goals as goal
+use Rattle.typed_path.proofs.scan.cursor.Body.back_ended.Goals.{After-back_step-kept}
 use Rattle.typed_path.proofs.lemmas.lists.Lists.{slice_range-earlier}
 
 -- the slice before the step
@@ -57,11 +57,17 @@ returns-clause-slice c =
     ∙ ap (λ ds. slice_after_back ds left) (sym split.1)
     ∙ ap (slice_after_back (body_items v)) c.as_bytes-left.ensures
 
-pub returns-clause-end : goal.returns-clause-end
-returns-clause-end c =
-    let step = (goal.at.returns-clause-end c).After-back_step-kept in
+pub returns-clause-left : goal.returns-clause-left
+returns-clause-left c =
+    let step = (goal.at.returns-clause-left c).After-back_step-kept in
     let split = items_split step in
     let v = c.args.self.now in
     let cs = body_from v.begin v.separators v.from (take c.back_step-kept.result.1 c.as_bytes-left.result.now) in
     sym (ap (λ ds. end_from v.from (but_last ds)) split.1 ∙ ap (end_from v.from) (but_last-push cs (record { part = step_part c.back_step-kept.result.0; start = split.0 }))
     ∙ c.back_step-kept.ensures.ends v.begin v.from (clean_left step))
+
+pub returns-clause-end : goal.returns-clause-end
+returns-clause-end c =
+    let step = (goal.at.returns-clause-end c).After-back_step-kept in
+    let v = c.args.self.now in
+    sym (ap (λ t. end_from v.from (body_from v.begin v.separators v.from t)) (sym c.as_bytes-left.ensures) ∙ c.back_step-kept.ensures.end v.begin v.from (clean_left step))

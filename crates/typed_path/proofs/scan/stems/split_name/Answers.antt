@@ -1,7 +1,7 @@
 use Rattle.std.proofs.Common.{sym, arith}
 use Rattle.std.proofs.lemmas.List.{take_rest}
 use Rattle.typed_path.proofs.lemmas.queries.FileNames.{stem-whole, extension-none, stem-before, extension-behind}
-use Rattle.typed_path.proofs.common.writing.split_name.Goals as goal
+use Rattle.typed_path.proofs.scan.stems.split_name.Goals as goal
 
 pub returns-in_default-clause-stem : goal.returns-in_default-clause-stem
 returns-in_default-clause-stem c = sym (stem-whole c.args.name.now (λ k low high. c.in_default.ensures k (omega arith) high))
