@@ -2,6 +2,8 @@
 # Times what it costs to cross to the library: each call for C that allocates nothing beside the same call of the library,
 # which crates/typed_path_bench exports; by turns, nanoseconds a call, the least of SWEEPS sweeps (400) over a thousand
 # paths that a seed makes. Either step is handed the numbers of a reading in memory, as no compiler knows them there.
+# The same machine code takes some nanoseconds more or less by where it stands, so where the linker of rustc is there,
+# all is linked in eight orders that seeds pick, and each side has the least of these.
 # Prints a row for each call, and last the calls that cost more than 3 ns; it fails if there are any.
 # bindings/crossing.sh DIR ARCHIVE [SWEEPS]: DIR has what bindings/c/build.sh laid out, ARCHIVE is the proved
 # libtyped_path_bench.a.
@@ -10,7 +12,7 @@ set -euo pipefail
 room=$(mktemp -d)
 trap 'rm -rf "$room"' EXIT
 
-cc -std=gnu11 -O2 "-I$1/include" -o "$room/crossing" -x c - -x none "$1/lib/libtyped_path.a" "$2" << 'END'
+cc -std=gnu11 -O2 "-I$1/include" -c -o "$room/crossing.o" -x c - << 'END'
 #include <stdio.h>
 #include <stdlib.h>
 #include <string.h>
@@ -67,7 +69,6 @@ NEVER(rattle_alloc) NEVER(rattle_dealloc) NEVER(rattle_realloc)
 #define OTHER others[d][i].text, others[d][i].len
 #define LENGTH(call) (typed_path_##call == TYPED_PATH_STATUS_DONE ? span.length : 1)
 #define ANSWER(call) (typed_path_##call == TYPED_PATH_STATUS_DONE ? answer : 2)
-static int dear;
 #define ROW(name, dialect, theirs, ours) { \
     const int d = dialect; \
     double least[2] = {1e18, 1e18}; \
@@ -94,17 +95,16 @@ static int dear;
         if (ended - between < least[1]) least[1] = ended - between; \
     } \
     if (sums[0] != sums[1]) { printf("%s: other answers\n", name); return 1; } \
-    double cost = (least[1] - least[0]) / COUNT; \
-    printf("| %s | %s | %.1f | %.1f | %+.1f |\n", name, d ? "Windows" : "Unix", least[0] / COUNT, least[1] / COUNT, cost); \
-    dear += cost > 3; \
+    printf("%s|%s|%.2f|%.2f\n", name, d ? "Windows" : "Unix", least[0] / COUNT, least[1] / COUNT); \
 }
 #define UNIX TYPED_PATH_UNIX, PATH
 #define WINDOWS TYPED_PATH_WINDOWS, PATH
-#define STEPPED(call) (typed_path_##call == TYPED_PATH_STATUS_DONE ? component.length : 1)
+#define STEPPED(call) \
+    (typed_path_##call == TYPED_PATH_STATUS_DONE \
+        ? component.start + component.length + (component.kind == TYPED_PATH_KIND_NAME) : 1)
 int main(int argc, char **argv) {
     int sweeps = argc > 1 ? atoi(argv[1]) : 400;
     make(0), make(1);
-    printf("| Call | Dialect | In the library | From C | More |\n|---|---|---|---|---|\n");
     ROW("parent", 0, bench_parent(PATH), LENGTH(parent(UNIX, &span)));
     ROW("parent", 1, bench_windows_parent(PATH), LENGTH(parent(WINDOWS, &span)));
     ROW("file_name", 0, bench_file_name(PATH), LENGTH(file_name(UNIX, &span)));
@@ -140,8 +140,37 @@ int main(int argc, char **argv) {
     ROW("next_back, the first", 0, bench_step_back_at(PATH, &reading), STEPPED(next_back(UNIX, &reading, &component)));
     ROW("next_back, the first", 1, bench_windows_step_back_at(PATH, &reading),
         STEPPED(next_back(WINDOWS, &reading, &component)));
-    printf("%d calls cost more than 3 ns\n", dear);
-    return dear != 0;
+    return 0;
 }
 END
-"$room/crossing" "${@:3}"
+linked() { cc "$@" -o "$room/crossing" "$room/crossing.o" "$dir/lib/libtyped_path.a" "$archive"; }
+dir=$1 archive=$2
+shift 2
+linker=$(rustc --print sysroot 2> /dev/null || true)/lib/rustlib/x86_64-unknown-linux-gnu/bin/gcc-ld
+if [[ -x $linker/ld.lld ]]; then
+    for order in {1..8}; do
+        linked "-B$linker" -fuse-ld=lld "-Wl,--shuffle-sections=*=$order"
+        "$room/crossing" "$@" >> "$room/rows"
+    done
+else
+    linked
+    "$room/crossing" "$@" > "$room/rows"
+fi
+awk -F'|' '
+    NF != 4 { print; wrong = 1; next }
+    { call = $1 "|" $2 }
+    !(call in ours) { calls[++count] = call; theirs[call] = $3; ours[call] = $4 }
+    $3 < theirs[call] { theirs[call] = $3 }
+    $4 < ours[call] { ours[call] = $4 }
+    END {
+        print "| Call | Dialect | In the library | From C | More |\n|---|---|---|---|---|"
+        for (at = 1; at <= count; at++) {
+            call = calls[at]
+            split(call, name, "|")
+            cost = ours[call] - theirs[call]
+            printf "| %s | %s | %.1f | %.1f | %+.1f |\n", name[1], name[2], theirs[call], ours[call], cost
+            dear += cost > 3
+        }
+        printf "%d calls cost more than 3 ns\n", dear
+        exit wrong || dear > 0
+    }' "$room/rows"

@@ -1,7 +1,7 @@
 //! What a Unix path answers, as a number: the length of the answer, or 1 if there is none; for a
 //! question 1 for yes and 0 for no.
 
-use typed_path::{TypedPath, UnixPath, Unread};
+use typed_path::{PlacedPiece, TypedPath, UnixPath, Unread};
 
 /// Returns the length of the last component.
 #[unsafe(no_mangle)]
@@ -103,22 +103,30 @@ pub extern "C" fn bench_step_back(path: &[u8]) -> usize {
     }
 }
 
-/// Returns the length of the first component that is left of a reading at `unread`, and moves
+/// Returns the index after a component, and 1 more for a name: so all that a step told of it is
+/// used.
+#[inline(always)]
+pub fn told(taken: PlacedPiece<'_>) -> usize {
+    let end = taken.start.wrapping_add(taken.piece.text.len());
+    end.wrapping_add(usize::from(taken.piece.is_normal()))
+}
+
+/// Returns what [`told`] makes of the first component left of a reading at `unread`, and moves
 /// `unread` past it.
 #[unsafe(no_mangle)]
 pub extern "C" fn bench_step_front_at(path: &[u8], unread: &mut Unread) -> usize {
     match TypedPath::Unix(UnixPath::new(path)).step_front(unread) {
-        Ok(Some(taken)) => taken.piece.text.len(),
+        Ok(Some(taken)) => told(taken),
         Ok(None) | Err(_) => 1,
     }
 }
 
-/// Returns the length of the last component that is left of a reading at `unread`, and moves
+/// Returns what [`told`] makes of the last component left of a reading at `unread`, and moves
 /// `unread` before it.
 #[unsafe(no_mangle)]
 pub extern "C" fn bench_step_back_at(path: &[u8], unread: &mut Unread) -> usize {
     match TypedPath::Unix(UnixPath::new(path)).step_back(unread) {
-        Ok(Some(taken)) => taken.piece.text.len(),
+        Ok(Some(taken)) => told(taken),
         Ok(None) | Err(_) => 1,
     }
 }

@@ -2,6 +2,7 @@
 //! parts their length, or 1 if there is none; questions 1 for yes and 0 for no; and calls that make
 //! a path its length, or 0 if it is refused or allocation fails.
 
+use crate::answers::told;
 use std::alloc::{AllocError, Global};
 use typed_path::{TypedPath, Unread, WindowsPath, WindowsPathBuf};
 
@@ -131,22 +132,22 @@ pub extern "C" fn bench_windows_step_back(path: &[u8]) -> usize {
     }
 }
 
-/// Returns the length of the first component that is left of a reading at `unread`, and moves
+/// Returns what [`told`] makes of the first component left of a reading at `unread`, and moves
 /// `unread` past it.
 #[unsafe(no_mangle)]
 pub extern "C" fn bench_windows_step_front_at(path: &[u8], unread: &mut Unread) -> usize {
     match TypedPath::Windows(WindowsPath::new(path)).step_front(unread) {
-        Ok(Some(taken)) => taken.piece.text.len(),
+        Ok(Some(taken)) => told(taken),
         Ok(None) | Err(_) => 1,
     }
 }
 
-/// Returns the length of the last component that is left of a reading at `unread`, and moves
+/// Returns what [`told`] makes of the last component left of a reading at `unread`, and moves
 /// `unread` before it.
 #[unsafe(no_mangle)]
 pub extern "C" fn bench_windows_step_back_at(path: &[u8], unread: &mut Unread) -> usize {
     match TypedPath::Windows(WindowsPath::new(path)).step_back(unread) {
-        Ok(Some(taken)) => taken.piece.text.len(),
+        Ok(Some(taken)) => told(taken),
         Ok(None) | Err(_) => 1,
     }
 }

@@ -7,19 +7,6 @@ use Rattle.typed_path.proofs.lemmas.components.Cuts.{comps-laid_out, comps-count
 use Rattle.typed_path_c.specs.declared.parts.Component.{Component}
 use Rattle.typed_path_c.specs.Parts.{IsBehind, over, told, kind_number}
 
--- the last component is none where no part is
-pub last_none : (o : Option Placed) → None ≡ option_map (λ c. c.part) o → None ≡ o
-last_none None e = refl
-last_none (Some c) e = cc e
-
--- and else it is that part, and ends where the list does
-pub last_some : (o : Option Placed) (p : Part) (end : ℕ) → Some p ≡ option_map (λ c. c.part) o → ((c : Placed) → o ≡ Some c → end ≡ end_of c)
-    → Some (record { part = p; start = end - length p.text }) ≡ o
-last_some None p end e ends = cc e
-last_some (Some c) p end e ends =
-    let same : p ≡ c.part = cc e in
-    ap₂ (λ part start. Some (record { part = part; start = start })) same (omega (arith, ends c refl, ap (λ q. length q.text) same))
-
 -- a list in order goes on behind the component that came
 in-order : (at end : ℕ) (seen : List Placed) (c d : Placed) (cs : List Placed) → AreInOrder at end (seen ++ c ∷ d ∷ cs) → c.start ≤ d.start
 in-order at end [] c d cs order = omega (arith, order.1.0)

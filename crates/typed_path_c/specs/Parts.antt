@@ -8,8 +8,6 @@ use Rattle.typed_path.specs.queries.Queries.{parent_of, extension, stripped}
 use Rattle.typed_path.specs.queries.Names.{first_stem_of, stem_of}
 use Rattle.typed_path.specs.queries.{common_ancestor_of, simplified_text}
 use Rattle.typed_path.specs.scan.Left.{first_of, last_of}
-use Rattle.typed_path.specs.views.PieceViews.{part_of}
-use Rattle.typed_path_c.specs.declared.parts.Last.{Last}
 use Rattle.typed_path_c.specs.declared.parts.Span.{Span}
 use Rattle.typed_path_c.specs.declared.parts.Component.{Component}
 use Rattle.typed_path_c.specs.Answers.{dialect_named, done, too_small, bad_dialect, none_there}
@@ -17,10 +15,6 @@ use Rattle.typed_path_c.specs.Answers.{dialect_named, done, too_small, bad_diale
 -- the last component of a path, if it is a name
 abbrev pub last_name : Dialect → List ℕ → Option Placed
 last_name d t = option_and_then (λ last. if is_name last.part.kind then Some last else None) (last_of (comps d t))
-
--- a component that was read, at its place
-abbrev pub last_view : Last → Placed
-last_view l = record { part = part_of l.piece; start = l.start }
 
 -- the place of a front, by its text
 abbrev pub front_place : List ℕ → ℕ × ℕ
@@ -59,12 +53,15 @@ simplified_place d t = Some (length t - length (simplified_text d t), length (si
 abbrev pub stripped_place : Dialect → List ℕ → List ℕ → Option (ℕ × ℕ)
 stripped_place d t base = option_map (λ rest. (length t - length rest, length rest)) (stripped d t base)
 
--- a place is told, or that there is none, or that a number names no dialect
+-- a place is told, or that there is none
+abbrev pub IsLent : Option (ℕ × ℕ) → Span → Span → ℕ → Type 0
+IsLent place old new status =
+    MatchOption place ((status ≡ none_there) × (new ≡ old))
+    (λ p. (status ≡ done) × (new.start ≡ p.0) × (new.length ≡ p.1))
+
+-- or that a number names no dialect
 abbrev pub Lends : ℕ → (Dialect → Option (ℕ × ℕ)) → Span → Span → ℕ → Type 0
-Lends number place old new status =
-    MatchOption (dialect_named number) ((status ≡ bad_dialect) × (new ≡ old))
-    (λ d. MatchOption (place d) ((status ≡ none_there) × (new ≡ old))
-    (λ p. (status ≡ done) × (new.start ≡ p.0) × (new.length ≡ p.1)))
+Lends number place old new status = MatchOption (dialect_named number) ((status ≡ bad_dialect) × (new ≡ old)) (λ d. IsLent (place d) old new status)
 
 -- the number of a kind of component
 abbrev pub prefix_number : Prefix → ℕ

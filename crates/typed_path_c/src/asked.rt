@@ -2,7 +2,7 @@
 //! `false`.
 
 ghost use Rattle.std.specs.Prelude.{◌≡◌, false};
-ghost use Rattle.typed_path.specs.components.{kinds, parts_of};
+ghost use Rattle.typed_path.specs.components.{kinds, parts_of, windows};
 ghost use Rattle.typed_path.specs.order.{is_same, lowered, path_cmp};
 ghost use Rattle.typed_path.specs.places.{is_within};
 ghost use Rattle.typed_path.specs.promises.{keeps_prefix};
@@ -13,7 +13,7 @@ ghost use Rattle.typed_path_c.specs.Answers.{dialect_named, done, bad_dialect, f
 
 use crate::status::{BAD_DIALECT, DONE, ended, of_encoding, of_path, path_in};
 use std::cmp::Ordering;
-use typed_path::{Encoding, Path, PathType};
+use typed_path::{Encoding, Path, PathType, UnixPath, WindowsPath};
 
 /// Sets `answer`, and returns [`DONE`].
 fn tell(asked: bool, answer: &mut bool) -> u32
@@ -68,15 +68,21 @@ pub extern "C" fn typed_path_has_root(dialect: u32, path: &[u8], answer: &mut bo
 pub extern "C" fn typed_path_is_valid(dialect: u32, path: &[u8], answer: &mut bool) -> u32
     ensures { Tells dialect (λ d. is_valid d (kinds (parts_of d path.now))) answer.new result }
 {
-    let asked = of_encoding!(dialect, is_valid(path), return tell_none(answer));
-    tell(asked, answer)
+    match dialect {
+        0 => tell(UnixPath::new(path).is_valid(), answer),
+        1 => tell_valid_on_windows(path, answer),
+        _ => tell_none(answer),
+    }
 }
 
-/// Whether the encoding allows every name of the path.
-fn is_valid<T: Encoding>(path: &[u8]) -> bool
-    ensures { result ≡ is_valid T.dialect (kinds (parts_of T.dialect path.now)) }
+/// Does what [`typed_path_is_valid`] does, for a Windows path. A call of its own, so that a look at
+/// a Unix path saves no registers for it.
+#[inline(never)]
+fn tell_valid_on_windows(path: &[u8], answer: &mut bool) -> u32
+    ensures status { result ≡ done }
+    ensures answer { answer.new ≡ is_valid windows (kinds (parts_of windows path.now)) }
 {
-    Path::<T>::new(path).is_valid()
+    tell(WindowsPath::new(path).is_valid(), answer)
 }
 
 /// Whether the dialect allows the name.
@@ -118,7 +124,14 @@ fn check<T: Encoding>(path: &[u8]) -> u32
 pub extern "C" fn typed_path_check_portable(dialect: u32, path: &[u8]) -> u32
     ensures { Judges dialect (λ d. status_by portable_status (portable_fault d path.now)) result }
 {
-    of_path!(dialect, path => ended(path.check_portable()), BAD_DIALECT)
+    of_encoding!(dialect, check_portable(path), BAD_DIALECT)
+}
+
+/// Returns what [`typed_path_check_portable`] does, for a path of one encoding.
+fn check_portable<T: Encoding>(path: &[u8]) -> u32
+    ensures { result ≡ status_by portable_status (portable_fault T.dialect path.now) }
+{
+    ended(Path::<T>::new(path).check_portable())
 }
 
 /// Whether a path has no prefix and every system takes each of its names as it is written.
@@ -126,7 +139,16 @@ pub extern "C" fn typed_path_check_portable(dialect: u32, path: &[u8]) -> u32
 pub extern "C" fn typed_path_is_portable(dialect: u32, path: &[u8], answer: &mut bool) -> u32
     ensures { Tells dialect (λ d. is_portable d path.now) answer.new result }
 {
-    of_path!(dialect, path => tell(path.is_portable(), answer), tell_none(answer))
+    of_encoding!(dialect, tell_portable(path, answer), tell_none(answer))
+}
+
+/// Sets `answer` to whether a path of one encoding has no prefix and every system takes each of its
+/// names as it is written, and returns [`DONE`].
+fn tell_portable<T: Encoding>(path: &[u8], answer: &mut bool) -> u32
+    ensures status { result ≡ done }
+    ensures answer { answer.new ≡ is_portable T.dialect path.now }
+{
+    tell(Path::<T>::new(path).is_portable(), answer)
 }
 
 /// Whether some version of Windows may take a name of the path for a device.

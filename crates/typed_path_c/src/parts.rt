@@ -1,19 +1,21 @@
 //! Parts of a path, given by their places, and its components.
 
-ghost use Rattle.std.specs.Prelude.{◌≡◌, ◌<◌, ◌^◌, ℕ, length, ◌++◌, ◌∷◌, [], List, Some, drop, option_copied, option_map, MatchOption};
+ghost use Rattle.std.specs.Prelude.{◌≡◌, ◌<◌, ◌^◌, ℕ, length, ◌++◌, ◌∷◌, [], List, Some, drop, option_map, MatchOption};
 ghost use Rattle.typed_path.specs.components.{Placed, comps};
-ghost use Rattle.typed_path.specs.queries.{file_name_of};
 ghost use Rattle.typed_path.specs.scan.{first_of, last_of};
 ghost use Rattle.typed_path.specs.views.PathViews.{components_items, components_slice};
 ghost use Rattle.typed_path.specs.views.PieceViews.{part_of};
 ghost use Rattle.typed_path.specs.views.TypedViews.{typed_bytes};
+ghost use Rattle.typed_path.specs.views.UnreadViews.{placed_of};
 ghost use Rattle.typed_path_c.specs.declared.parts.Component.{Component};
 ghost use Rattle.typed_path_c.specs.Answers.{done, none_there};
-ghost use Rattle.typed_path_c.specs.Parts.{last_view, parent_place, file_name_place, file_stem_place, file_prefix_place, extension_place, stripped_place, simplified_place, common_place, front_place, name_place, Lends, kind_number, over, told, ListsIn, Lists, LendsAt, IsBehind};
+ghost use Rattle.typed_path_c.specs.Parts.{parent_place, file_name_place, file_stem_place, file_prefix_place, extension_place, stripped_place, simplified_place, common_place, front_place, IsLent, Lends, kind_number, over, told, ListsIn, Lists, LendsAt, IsBehind};
 ghost use Rattle.typed_path_c.specs.Places.{Names};
 
 use crate::status::{BAD_DIALECT, DONE, NONE, TOO_SMALL, of_encoding, path_in};
-use typed_path::{Components, Encoding, Path, Piece, PieceKind, TypedPath, WindowsPrefix};
+use typed_path::{
+    Components, Encoding, Path, Piece, PieceKind, PlacedPiece, TypedPath, WindowsPrefix,
+};
 
 /// A part of the caller's path: the index of its first byte, and its length in bytes.
 #[repr(C)]
@@ -37,31 +39,15 @@ fn lend<T: Copy>(found: Option<T>, part: &mut T) -> u32
     }
 }
 
-/// A component, and its index in the path.
-#[derive(Clone, Copy)]
-struct Last<'a> {
-    start: usize,
-    piece: Piece<'a>,
-}
-
 /// Returns the last component, `None` if there is none.
 ///
 /// Always inlined: a value with room for a prefix is returned by copies that wait for each other,
 /// which takes longer than the reading.
 #[inline(always)]
-#[tactic(auto, using(crate::proofs::Spans::last_none, crate::proofs::Spans::last_some))]
-fn last_of<T: Encoding>(path: &[u8]) -> Option<Last<'_>>
-    ensures { option_map last_view result ≡ last_of (comps T.dialect path.now) }
+fn last_of<T: Encoding>(path: &[u8]) -> Option<PlacedPiece<'_>>
+    ensures { option_map placed_of result ≡ last_of (comps T.dialect path.now) }
 {
-    let mut components = Path::<T>::new(path).components();
-    let end = components.last_end();
-    match components.next_back() {
-        Some(piece) => Some(Last {
-            start: end.saturating_sub(piece.text.len()),
-            piece,
-        }),
-        None => None,
-    }
+    Path::<T>::new(path).components().last_placed()
 }
 
 /// Sets `span` to the path without its last component. [`NONE`] if it has no component, or if
@@ -100,25 +86,38 @@ fn whole_front(found: Option<TypedPath<'_>>) -> Option<Span>
     }
 }
 
+/// The body of the three calls for the front of a file name: it lends what `$front` answers of the
+/// last component. Each is a call of its own for each dialect, so that one saves no registers for
+/// the other.
+macro_rules! lend_front {
+    ($path:ident, $span:ident, $front:ident) => {{
+        let Some(last) = last_of::<T>($path) else {
+            return NONE;
+        };
+        let Some(front) = last.piece.$front() else {
+            return NONE;
+        };
+        *$span = Span {
+            start: last.start,
+            length: front.len(),
+        };
+        DONE
+    }};
+}
+
 /// Sets `span` to the last component if it is a name; else returns [`NONE`].
 #[unsafe(no_mangle)]
 pub extern "C" fn typed_path_file_name(dialect: u32, path: &[u8], span: &mut Span) -> u32
     ensures { Lends dialect (λ d. file_name_place d path.now) span.old span.new result }
 {
-    let found = of_encoding!(dialect, file_name(path), return BAD_DIALECT);
-    lend(found, span)
+    of_encoding!(dialect, lend_file_name(path, span), BAD_DIALECT)
 }
 
-fn file_name<T: Encoding>(path: &[u8]) -> Option<Span>
-    ensures { option_map (λ s. (s.start, s.length)) result ≡ file_name_place T.dialect path.now }
+#[inline(never)]
+fn lend_file_name<T: Encoding>(path: &[u8], span: &mut Span) -> u32
+    ensures { IsLent (file_name_place T.dialect path.now) span.old span.new result }
 {
-    match last_of::<T>(path) {
-        Some(last) if last.piece.is_normal() => Some(Span {
-            start: last.start,
-            length: last.piece.text.len(),
-        }),
-        _ => None,
-    }
+    lend_front!(path, span, file_name)
 }
 
 /// Sets `span` to the file name up to its last dot, or to the whole file name if it has no dot but
@@ -127,14 +126,14 @@ fn file_name<T: Encoding>(path: &[u8]) -> Option<Span>
 pub extern "C" fn typed_path_file_stem(dialect: u32, path: &[u8], span: &mut Span) -> u32
     ensures { Lends dialect (λ d. file_stem_place d path.now) span.old span.new result }
 {
-    let found = of_encoding!(dialect, file_stem(path), return BAD_DIALECT);
-    lend(found, span)
+    of_encoding!(dialect, lend_file_stem(path, span), BAD_DIALECT)
 }
 
-fn file_stem<T: Encoding>(path: &[u8]) -> Option<Span>
-    ensures { option_map (λ s. (s.start, s.length)) result ≡ file_stem_place T.dialect path.now }
+#[inline(never)]
+fn lend_file_stem<T: Encoding>(path: &[u8], span: &mut Span) -> u32
+    ensures { IsLent (file_stem_place T.dialect path.now) span.old span.new result }
 {
-    front::<T>(path, Path::<T>::new(path).file_stem())
+    lend_front!(path, span, file_stem)
 }
 
 /// Sets `span` to the file name up to its first dot that is not at its start, or to the whole file
@@ -143,33 +142,14 @@ fn file_stem<T: Encoding>(path: &[u8]) -> Option<Span>
 pub extern "C" fn typed_path_file_prefix(dialect: u32, path: &[u8], span: &mut Span) -> u32
     ensures { Lends dialect (λ d. file_prefix_place d path.now) span.old span.new result }
 {
-    let found = of_encoding!(dialect, file_prefix(path), return BAD_DIALECT);
-    lend(found, span)
+    of_encoding!(dialect, lend_file_prefix(path, span), BAD_DIALECT)
 }
 
-fn file_prefix<T: Encoding>(path: &[u8]) -> Option<Span>
-    ensures { option_map (λ s. (s.start, s.length)) result ≡ file_prefix_place T.dialect path.now }
+#[inline(never)]
+fn lend_file_prefix<T: Encoding>(path: &[u8], span: &mut Span) -> u32
+    ensures { IsLent (file_prefix_place T.dialect path.now) span.old span.new result }
 {
-    front::<T>(path, Path::<T>::new(path).file_prefix())
-}
-
-/// Returns where a front of the file name is, given its bytes; `None` if there is none.
-#[inline(always)]
-fn front<T: Encoding>(path: &[u8], text: Option<&[u8]>) -> Option<Span>
-    ensures { (part : List ℕ → List ℕ)
-        → option_copied text.entry ≡ option_map part (file_name_of T.dialect path.now)
-        → option_map (λ s. (s.start, s.length)) result ≡ name_place part T.dialect path.now }
-{
-    let Some(text) = text else {
-        return None;
-    };
-    match last_of::<T>(path) {
-        Some(last) => Some(Span {
-            start: last.start,
-            length: text.len(),
-        }),
-        None => None,
-    }
+    lend_front!(path, span, file_prefix)
 }
 
 /// Sets `span` to what follows the last dot of the file name. [`NONE`] if the path has no file
@@ -178,21 +158,25 @@ fn front<T: Encoding>(path: &[u8], text: Option<&[u8]>) -> Option<Span>
 pub extern "C" fn typed_path_extension(dialect: u32, path: &[u8], span: &mut Span) -> u32
     ensures { Lends dialect (λ d. extension_place d path.now) span.old span.new result }
 {
-    let found = of_encoding!(dialect, extension(path), return BAD_DIALECT);
-    lend(found, span)
+    of_encoding!(dialect, lend_extension(path, span), BAD_DIALECT)
 }
 
-fn extension<T: Encoding>(path: &[u8]) -> Option<Span>
-    ensures { option_map (λ s. (s.start, s.length)) result ≡ extension_place T.dialect path.now }
+#[inline(never)]
+fn lend_extension<T: Encoding>(path: &[u8], span: &mut Span) -> u32
+    ensures { IsLent (extension_place T.dialect path.now) span.old span.new result }
 {
-    let Some(extension) = Path::<T>::new(path).extension() else {
-        return None;
+    let Some(last) = last_of::<T>(path) else {
+        return NONE;
     };
-    let end = Path::<T>::new(path).components().last_end();
-    Some(Span {
-        start: end.saturating_sub(extension.len()),
+    let Some(extension) = last.piece.extension() else {
+        return NONE;
+    };
+    let end = last.start + last.piece.len();
+    *span = Span {
+        start: end - extension.len(),
         length: extension.len(),
-    })
+    };
+    DONE
 }
 
 /// Sets `span` to the leading components that both paths share, compared as they are written, as
