@@ -109,13 +109,21 @@ typedef struct {
 static PyObject *unix_new(PyTypeObject *type, PyObject *args, PyObject *named);
 static PyObject *windows_new(PyTypeObject *type, PyObject *args, PyObject *named);
 
+/* A function of a module. */
+static PyObject *imported(const char *name, const char *function)
+{
+    PyObject *module = PyImport_ImportModule(name);
+    PyObject *call = module ? PyObject_GetAttrString(module, function) : NULL;
+    Py_XDECREF(module);
+    return call;
+}
+
 /* Errors. */
 
 /* Raises the error that a function of _errors.py makes of these words, and returns NULL. */
 static PyObject *raised(const char *function, const char *format, ...)
 {
-    PyObject *module = PyImport_ImportModule("typed_path._errors");
-    PyObject *call = module ? PyObject_GetAttrString(module, function) : NULL;
+    PyObject *call = imported("typed_path._errors", function);
     va_list words;
     va_start(words, format);
     PyObject *args = call ? Py_VaBuildValue(format, words) : NULL;
@@ -126,7 +134,6 @@ static PyObject *raised(const char *function, const char *format, ...)
     Py_XDECREF(error);
     Py_XDECREF(args);
     Py_XDECREF(call);
-    Py_XDECREF(module);
     return NULL;
 }
 
@@ -1494,18 +1501,17 @@ static void forget_run(Batch *batch)
 }
 
 /* Makes room for so many names in the run. */
-static inline bool has_room(Batch *batch, size_t count)
+static bool has_room(Batch *batch, size_t count)
 {
     if (count <= batch->room)
         return true;
-    size_t room = count < 2 * batch->room ? 2 * batch->room : count < 64 ? 64 : count;
-    Item *items = PyMem_Realloc(batch->items, room * sizeof *items);
+    Item *items = PyMem_Realloc(batch->items, count * sizeof *items);
     if (!items) {
         PyErr_NoMemory();
         return false;
     }
     batch->items = items;
-    batch->room = room;
+    batch->room = count;
     return true;
 }
 
@@ -1551,18 +1557,24 @@ static inline bool is_taken(Batch *batch, PyObject *name, Item *item)
     return true;
 }
 
-/* Notes that so many names were taken, of so many bytes. */
-static void note_run(Batch *batch, size_t count, size_t len)
-{
-    batch->count = count;
-    batch->size = len + count * aligned(TYPED_PATH_RESOLVE_BOUND(batch->base->len, WORD) + batch->end.len);
-}
-
-/* Takes a run of names from a list; less than 0 for an error, 0 if there are no more behind it. */
-static int take_listed(Batch *batch, PyObject *names)
+/* The names of the next run in a list of our own: a part of a list, else what `slice` takes from an iterator. */
+static PyObject *next_names(const Batch *batch, PyObject *names, PyObject *slice)
 {
     Py_ssize_t before = (Py_ssize_t)batch->before;
-    batch->names = hidden(PyList_GetSlice(names, before, before + NAMES_AT_ONCE));
+    if (!slice)
+        return hidden(PyList_GetSlice(names, before, before + NAMES_AT_ONCE));
+    PyObject *next = PyObject_CallFunction(slice, "Oi", names, NAMES_AT_ONCE);
+    PyObject *taken = next ? PySequence_List(next) : NULL;
+    PyObject *own = taken ? PyList_GetSlice(taken, 0, NAMES_AT_ONCE) : NULL;
+    Py_XDECREF(next);
+    Py_XDECREF(taken);
+    return hidden(own);
+}
+
+/* Takes a run of names; less than 0 for an error, 0 if there are no more behind it. */
+static int take_run(Batch *batch, PyObject *names, PyObject *slice)
+{
+    batch->names = next_names(batch, names, slice);
     size_t count = batch->names ? (size_t)PyList_Size(batch->names) : 0, len = 0;
     if (!batch->names || !has_room(batch, count))
         return -1;
@@ -1572,30 +1584,9 @@ static int take_listed(Batch *batch, PyObject *names)
             return -1;
         len += item->len;
     }
-    note_run(batch, count, len);
+    batch->count = count;
+    batch->size = len + count * aligned(TYPED_PATH_RESOLVE_BOUND(batch->base->len, WORD) + batch->end.len);
     return count == NAMES_AT_ONCE;
-}
-
-/* The same from an iterator. */
-static int take_run(Batch *batch, PyObject *names)
-{
-    size_t count = 0, len = 0;
-    batch->names = hidden(PyList_New(0));
-    while (batch->names && count < NAMES_AT_ONCE) {
-        PyObject *name = PyIter_Next(names);
-        if (!name && PyErr_Occurred())
-            return -1;
-        if (!name)
-            break;
-        bool is_held = PyList_Append(batch->names, name) == 0;
-        Py_DECREF(name);
-        if (!is_held || !has_room(batch, count + 1) || !is_taken(batch, name, &batch->items[count]))
-            return -1;
-        len += batch->items[count].len;
-        ++count;
-    }
-    note_run(batch, count, len);
-    return batch->names ? count == NAMES_AT_ONCE : -1;
 }
 
 /* Joins the names of the run. Their targets stand behind each other in `out`, from `used` on; those of a list at words,
@@ -1783,17 +1774,19 @@ static bool are_joined(Batch *batch, PyObject *number, PyObject *names)
     batch->call = calls[which];
     batch->unwritten = which == 1 ? TYPED_PATH_STATUS_NOT_TEXT : TYPED_PATH_STATUS_INVALID_FILENAME;
     batch->are_bytes = -1;
-    bool are_listed = PyList_CheckExact(names);
-    PyObject *from = are_listed ? again(names) : PyObject_GetIter(names);
+    bool is_tuple = PyTuple_CheckExact(names);
+    PyObject *slice = is_tuple || PyList_CheckExact(names) ? NULL : imported("itertools", "islice");
+    PyObject *from = slice ? PyObject_GetIter(names) : PyErr_Occurred() ? NULL : is_tuple ? PySequence_List(names) : again(names);
     int more = from ? 1 : -1;
     while (more > 0) {
-        more = are_listed ? take_listed(batch, from) : take_run(batch, from);
+        more = take_run(batch, from, slice);
         if (more >= 0 && batch->count && !is_run_done(batch))
             more = -1;
         forget_run(batch);
     }
     PyMem_Free(batch->items);
     Py_XDECREF(from);
+    Py_XDECREF(slice);
     return more == 0;
 }
 
