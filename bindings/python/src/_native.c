@@ -109,21 +109,13 @@ typedef struct {
 static PyObject *unix_new(PyTypeObject *type, PyObject *args, PyObject *named);
 static PyObject *windows_new(PyTypeObject *type, PyObject *args, PyObject *named);
 
-/* A function of a module. */
-static PyObject *imported(const char *name, const char *function)
-{
-    PyObject *module = PyImport_ImportModule(name);
-    PyObject *call = module ? PyObject_GetAttrString(module, function) : NULL;
-    Py_XDECREF(module);
-    return call;
-}
-
 /* Errors. */
 
 /* Raises the error that a function of _errors.py makes of these words, and returns NULL. */
 static PyObject *raised(const char *function, const char *format, ...)
 {
-    PyObject *call = imported("typed_path._errors", function);
+    PyObject *module = PyImport_ImportModule("typed_path._errors");
+    PyObject *call = module ? PyObject_GetAttrString(module, function) : NULL;
     va_list words;
     va_start(words, format);
     PyObject *args = call ? Py_VaBuildValue(format, words) : NULL;
@@ -134,6 +126,7 @@ static PyObject *raised(const char *function, const char *format, ...)
     Py_XDECREF(error);
     Py_XDECREF(args);
     Py_XDECREF(call);
+    Py_XDECREF(module);
     return NULL;
 }
 
@@ -1449,8 +1442,9 @@ static int path_setattro(PyObject *self, PyObject *name, PyObject *value)
 
 /* Many joins at once. */
 
-/* A name; once it was joined, `at` and `len` are its target's. */
+/* A name, which it holds; once that was joined, `at` and `len` are its target's. */
 typedef struct {
+    PyObject *name;
     const char *at;
     size_t len;
     uint32_t status;
@@ -1468,9 +1462,8 @@ typedef struct {
     char *buffer;
     size_t buffer_size, used;
     Text end;
-    PyObject *names; /* a list of the names of the run, as they were handed in */
-    PyObject *held;  /* a list of what their bytes are read from besides; NULL where that is nothing */
-    Item *items;
+    Item *items;    /* the names of the run */
+    PyObject *held; /* a list of what their bytes are read from besides; NULL where that is nothing */
     size_t count, room;
     size_t size;   /* the bytes that the targets of the run take at most */
     size_t before; /* how many names stand before the run */
@@ -1484,17 +1477,11 @@ static inline size_t aligned(size_t at)
     return (at + WORD - 1) / WORD * WORD;
 }
 
-/* A list that no one else finds, as by `gc`, while the lock of Python is let go. */
-static PyObject *hidden(PyObject *list)
-{
-    if (list)
-        PyObject_GC_UnTrack(list);
-    return list;
-}
-
+/* Lets go of the names of the run. */
 static void forget_run(Batch *batch)
 {
-    Py_CLEAR(batch->names);
+    for (size_t at = 0; at < batch->count; ++at)
+        Py_DECREF(batch->items[at].name);
     Py_CLEAR(batch->held);
     batch->before += batch->count;
     batch->count = batch->size = 0;
@@ -1505,19 +1492,21 @@ static bool has_room(Batch *batch, size_t count)
 {
     if (count <= batch->room)
         return true;
-    Item *items = PyMem_Realloc(batch->items, count * sizeof *items);
+    size_t room = count < 2 * batch->room ? 2 * batch->room : count < 64 ? 64 : count;
+    Item *items = PyMem_Realloc(batch->items, room * sizeof *items);
     if (!items) {
         PyErr_NoMemory();
         return false;
     }
     batch->items = items;
-    batch->room = count;
+    batch->room = room;
     return true;
 }
 
 /* Reads the bytes of a name, which is a str or bytes as the first one is. */
-static bool read_name(Batch *batch, PyObject *name, Item *item)
+static bool read_name(Batch *batch, Item *item)
 {
+    PyObject *name = item->name;
     bool is_bytes = !is_str(name);
     if ((is_bytes && !PyBytes_Check(name)) || (batch->are_bytes >= 0 && batch->are_bytes != is_bytes)) {
         PyErr_SetString(PyExc_TypeError, "names have to be all str, or all bytes");
@@ -1526,9 +1515,13 @@ static bool read_name(Batch *batch, PyObject *name, Item *item)
     batch->are_bytes = is_bytes;
     Text text = {"", 0, NULL, is_bytes};
     bool is_read = is_bytes ? read_bytes(name, &text) : read_str(batch->base->dialect, name, &text);
-    *item = (Item){text.at, text.len, TYPED_PATH_STATUS_DONE};
-    if (text.held && !batch->held)
-        batch->held = hidden(PyList_New(0));
+    *item = (Item){name, text.at, text.len, TYPED_PATH_STATUS_DONE};
+    if (text.held && !batch->held) {
+        batch->held = PyList_New(0);
+        /* No one else finds it, as by `gc`, while the lock of Python is let go. */
+        if (batch->held)
+            PyObject_GC_UnTrack(batch->held);
+    }
     if (text.held) {
         is_read = batch->held && PyList_Append(batch->held, text.held) == 0;
         Py_DECREF(text.held);
@@ -1538,55 +1531,55 @@ static bool read_name(Batch *batch, PyObject *name, Item *item)
     if (!PyErr_ExceptionMatches(PyExc_UnicodeEncodeError))
         return false;
     PyErr_Clear();
-    *item = (Item){"", 0, batch->unwritten};
+    *item = (Item){name, "", 0, batch->unwritten};
     return true;
 }
 
 /* Reads a name that is held. Most are a str behind others. */
-static inline bool is_taken(Batch *batch, PyObject *name, Item *item)
+static inline bool is_taken(Batch *batch, Item *item)
 {
     Py_ssize_t len;
-    if (batch->are_bytes != 0 || !PyUnicode_CheckExact(name) || !is_utf8[batch->base->dialect])
-        return read_name(batch, name, item);
-    const char *at = PyUnicode_AsUTF8AndSize(name, &len);
+    if (batch->are_bytes != 0 || !PyUnicode_CheckExact(item->name) || !is_utf8[batch->base->dialect])
+        return read_name(batch, item);
+    const char *at = PyUnicode_AsUTF8AndSize(item->name, &len);
     if (!at) {
         PyErr_Clear();
-        return read_name(batch, name, item);
+        return read_name(batch, item);
     }
-    *item = (Item){at, (size_t)len, TYPED_PATH_STATUS_DONE};
+    *item = (Item){item->name, at, (size_t)len, TYPED_PATH_STATUS_DONE};
     return true;
 }
 
-/* The names of the next run in a list of our own: a part of a list, else what `slice` takes from an iterator. */
-static PyObject *next_names(const Batch *batch, PyObject *names, PyObject *slice)
+/* Takes a run of names from a list, a tuple or an iterator; less than 0 for an error, 0 if there are no more behind it. */
+static int take_run(Batch *batch, PyObject *names)
 {
-    Py_ssize_t before = (Py_ssize_t)batch->before;
-    if (!slice)
-        return hidden(PyList_GetSlice(names, before, before + NAMES_AT_ONCE));
-    PyObject *next = PyObject_CallFunction(slice, "Oi", names, NAMES_AT_ONCE);
-    PyObject *taken = next ? PySequence_List(next) : NULL;
-    PyObject *own = taken ? PyList_GetSlice(taken, 0, NAMES_AT_ONCE) : NULL;
-    Py_XDECREF(next);
-    Py_XDECREF(taken);
-    return hidden(own);
-}
-
-/* Takes a run of names; less than 0 for an error, 0 if there are no more behind it. */
-static int take_run(Batch *batch, PyObject *names, PyObject *slice)
-{
-    batch->names = next_names(batch, names, slice);
-    size_t count = batch->names ? (size_t)PyList_Size(batch->names) : 0, len = 0;
-    if (!batch->names || !has_room(batch, count))
-        return -1;
-    for (size_t at = 0; at < count; ++at) {
-        Item *item = &batch->items[at];
-        if (!is_taken(batch, PyList_GetItem(batch->names, (Py_ssize_t)at), item))
+    const bool is_list = PyList_CheckExact(names), is_tuple = PyTuple_CheckExact(names);
+    const Py_ssize_t before = (Py_ssize_t)batch->before;
+    size_t most = NAMES_AT_ONCE, count = 0, len = 0;
+    if (is_list || is_tuple) {
+        Py_ssize_t left = (is_list ? PyList_Size(names) : PyTuple_Size(names)) - before;
+        most = left < 0 ? 0 : left < NAMES_AT_ONCE ? (size_t)left : NAMES_AT_ONCE;
+        if (!has_room(batch, most))
             return -1;
+    }
+    while (count < most) {
+        Py_ssize_t at = before + (Py_ssize_t)count;
+        PyObject *name = is_list ? PyList_GetItem(names, at) : is_tuple ? PyTuple_GetItem(names, at) : PyIter_Next(names);
+        if (is_list || is_tuple)
+            Py_XINCREF(name);
+        if (!name || !has_room(batch, count + 1)) {
+            Py_XDECREF(name);
+            break;
+        }
+        Item *item = &batch->items[count++];
+        item->name = name;
+        if (!is_taken(batch, item))
+            break;
         len += item->len;
     }
     batch->count = count;
     batch->size = len + count * aligned(TYPED_PATH_RESOLVE_BOUND(batch->base->len, WORD) + batch->end.len);
-    return count == NAMES_AT_ONCE;
+    return PyErr_Occurred() ? -1 : count == NAMES_AT_ONCE;
 }
 
 /* Joins the names of the run. Their targets stand behind each other in `out`, from `used` on; those of a list at words,
@@ -1756,7 +1749,7 @@ static bool is_run_done(Batch *batch)
     if (status == TYPED_PATH_STATUS_OUT_OF_MEMORY)
         PyErr_NoMemory();
     else if (status == TYPED_PATH_STATUS_TOO_SMALL)
-        raised("too_small", "(On)", PyList_GetItem(batch->names, (Py_ssize_t)place), (Py_ssize_t)(batch->before + place));
+        raised("too_small", "(On)", batch->items[place].name, (Py_ssize_t)(batch->before + place));
     PyMem_Free(own);
     return is_done;
 }
@@ -1774,19 +1767,17 @@ static bool are_joined(Batch *batch, PyObject *number, PyObject *names)
     batch->call = calls[which];
     batch->unwritten = which == 1 ? TYPED_PATH_STATUS_NOT_TEXT : TYPED_PATH_STATUS_INVALID_FILENAME;
     batch->are_bytes = -1;
-    bool is_tuple = PyTuple_CheckExact(names);
-    PyObject *slice = is_tuple || PyList_CheckExact(names) ? NULL : imported("itertools", "islice");
-    PyObject *from = slice ? PyObject_GetIter(names) : PyErr_Occurred() ? NULL : is_tuple ? PySequence_List(names) : again(names);
+    bool are_listed = PyList_CheckExact(names) || PyTuple_CheckExact(names);
+    PyObject *from = are_listed ? again(names) : PyObject_GetIter(names);
     int more = from ? 1 : -1;
     while (more > 0) {
-        more = take_run(batch, from, slice);
+        more = take_run(batch, from);
         if (more >= 0 && batch->count && !is_run_done(batch))
             more = -1;
         forget_run(batch);
     }
     PyMem_Free(batch->items);
     Py_XDECREF(from);
-    Py_XDECREF(slice);
     return more == 0;
 }
 
