@@ -198,8 +198,8 @@ pub trait Encoding: Sized {
     ///
     /// What is known is the length of a verbatim prefix, if all is spelled as a push spells it: 6
     /// for `\\?\C:\a`, and not for `\\?\C:\a\`; else `None`. Pushes in turn hand it on, so that
-    /// none has to read anew what stands there. If `known` is wrong, the bytes are unspecified, but
-    /// those of a failure.
+    /// none has to read anew what stands there. If `known` is wrong, all that holds is that `text`
+    /// keeps its bytes if allocation fails.
     fn push_next(
         text: &mut Vec<u8>,
         start: usize,
